@@ -1,0 +1,31 @@
+//! The instructions of AMD64 that the compiler writes, and their bytes.
+//!
+//! `encode` gives the one encoding of an instruction that this crate knows, and `decode` reads the
+//! instruction at the front of some bytes. What `encode` writes is read again, whatever follows it, and
+//! nothing else is read: another encoding of the same instruction is unknown. Neither takes memory.
+//!
+//! The encodings are those of the AMD64 Architecture Programmer's Manual, Volume 3: General-Purpose and
+//! System Instructions, chapter 1 "Instruction Encoding" and appendix A "Opcode and Operand Encodings".
+//!
+//! - `reg.rt`: the sixteen registers of 64 bits
+//! - `inst.rt`: the instructions, and their text in the usual assembler's words
+//! - `bytes.rt`: the bytes of one instruction
+//! - `encoding.rt`: from an instruction to its bytes
+//! - `form.rt`: the table of forms, each with the bytes that it has
+//! - `decoding.rt`: from bytes to the instruction at their front
+//! - `specs/`: `Reg` and `Inst`, the numbers of registers and the ranges of constants; `Encoding`, the
+//!   bytes of each instruction; `Form`, how the table is read
+#![tactic(auto)]
+
+mod bytes;
+mod decoding;
+mod encoding;
+mod form;
+mod inst;
+mod reg;
+
+pub use bytes::Bytes;
+pub use decoding::{DecodeFault, decode, one_spelling};
+pub use encoding::encode;
+pub use inst::Inst;
+pub use reg::Reg;

@@ -1,0 +1,35 @@
+//! The sixteen registers of 64 bits.
+
+ghost use Rattle.std.specs.Prelude.{◌≡◌, ◌<◌};
+ghost use Rattle.amd64_form.specs.Reg.{number};
+
+/// A general-purpose register of 64 bits. The variants stand in the order of their numbers, 0 to 15.
+#[derive(Clone, Copy, PartialEq, Eq, Debug)]
+pub enum Reg {
+    Rax,
+    Rcx,
+    Rdx,
+    Rbx,
+    Rsp,
+    Rbp,
+    Rsi,
+    Rdi,
+    R8,
+    R9,
+    R10,
+    R11,
+    R12,
+    R13,
+    R14,
+    R15,
+}
+
+impl Reg {
+    /// The number by which an encoding names the register, 0 to 15 (the manual's volume 3, section 1.2).
+    pub fn number(self) -> u8
+        ensures number { result ≡ number self }
+        ensures bound { result < 16 }
+    {
+        self as u8
+    }
+}
