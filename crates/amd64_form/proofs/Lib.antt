@@ -1,0 +1,6 @@
+mod Fit
+mod Table
+mod Fields
+mod Shapes
+mod Rows
+mod Laws

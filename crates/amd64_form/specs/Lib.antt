@@ -1,3 +1,4 @@
 pub mod Reg
 pub mod Inst
 pub mod Encoding
+pub mod Form

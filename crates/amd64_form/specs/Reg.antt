@@ -1,5 +1,5 @@
 -- The sixteen registers of 64 bits and their numbers.
-use Rattle.std.specs.Prelude.{ℕ, ◌/◌, ◌%◌}
+use Rattle.std.specs.Prelude.{ℕ, ◌/◌, ◌%◌, List, [], ◌∷◌, slice_index_or as get_or}
 use Rattle.amd64_form.specs.declared.reg.Reg.{Reg}
 use Rattle.amd64_form.specs.declared.reg.Reg.TheVariants.{Rax, Rcx, Rdx, Rbx, Rsp, Rbp, Rsi, Rdi, R8, R9, R10, R11, R12, R13, R14, R15}
 
@@ -29,3 +29,11 @@ high r = number r / 8
 -- the low three bits, which stand in the opcode or in the ModRM byte
 abbrev pub low : Reg → ℕ
 low r = number r % 8
+
+-- the registers in the order of their numbers
+abbrev pub registers : List Reg
+registers = Rax ∷ Rcx ∷ Rdx ∷ Rbx ∷ Rsp ∷ Rbp ∷ Rsi ∷ Rdi ∷ R8 ∷ R9 ∷ R10 ∷ R11 ∷ R12 ∷ R13 ∷ R14 ∷ R15 ∷ []
+
+-- the register of this number
+abbrev pub register : ℕ → Reg
+register n = get_or registers n Rax

@@ -4,7 +4,9 @@ ghost use Rattle.std.specs.Prelude.{◌≡◌, ◌↔◌, ℕ, List, length, dro
 ghost use Rattle.amd64_form.specs.Inst.{IsInst};
 ghost use Rattle.amd64_form.specs.declared.inst.Inst.{Inst};
 ghost use Rattle.amd64_form.specs.Encoding.{encoding, BeginsWithInst, IsPartOfInst};
+ghost use Rattle.amd64_form.specs.Form.{reading};
 
+use crate::form::{FORMS, Fit, Form};
 use crate::inst::Inst;
 
 /// Why no instruction is read.
@@ -30,6 +32,21 @@ pub fn decode(bytes: &[u8]) -> Result<(Inst, usize), DecodeFault>
     ensures short { (result ≡ Err DecodeFault.Short) ↔ IsPartOfInst bytes.now }
     ensures unknown { (result ≡ Err DecodeFault.Unknown) ↔ (¬ BeginsWithInst bytes.now × ¬ IsPartOfInst bytes.now) }
 {
+    read(&FORMS, bytes)
+}
+
+/// What the first of the forms that fits the bytes gives.
+#[tactic(auto, using(crate::proofs::Fit::fit_length), unfolding(crate::specs::Form::reading))]
+fn read(forms: &[Form], bytes: &[u8]) -> Result<(Inst, usize), DecodeFault>
+    ensures { result ≡ reading forms.now bytes.now }
+{
+    for form in forms {
+        match form.fit(bytes) {
+            Fit::Whole => return Ok((form.inst(bytes), form.parts().len())),
+            Fit::Front => return Err(DecodeFault::Short),
+            Fit::Apart => {}
+        }
+    }
     Err(DecodeFault::Unknown)
 }
 
