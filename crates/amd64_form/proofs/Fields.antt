@@ -4,7 +4,7 @@ use Rattle.std.proofs.lemmas.Bool.{eqb-true}
 use Rattle.std.proofs.lemmas.Bool.Decides.{nat_tests}
 use Rattle.amd64_form.specs.declared.reg.Reg.{Reg}
 use Rattle.amd64_form.specs.declared.reg.Reg.TheVariants.{Rax, Rcx, Rdx, Rbx, Rsp, Rbp, Rsi, Rdi, R8, R9, R10, R11, R12, R13, R14, R15}
-use Rattle.amd64_form.specs.declared.form.Part.TheVariants.{WidePrefix, WidePrefixOfOne, WithRegister, ModRm}
+use Rattle.amd64_form.specs.declared.form.Part.TheVariants.{Wide, WideOne, Plus, ModRm}
 use Rattle.amd64_form.specs.Reg.{number, high, low, registers, register}
 use Rattle.amd64_form.specs.Encoding.{rex, mod_rm}
 use Rattle.amd64_form.proofs.Fit.{at_below}
@@ -63,27 +63,27 @@ reg_bits prefix byte = bits_of (prefix / 4 % 2) (byte / 8 % 8) (omega arith) (om
 pub rm_bits : (prefix byte : ℕ) → (high (rm_field prefix byte) ≡ prefix % 2) × (low (rm_field prefix byte) ≡ byte % 8)
 rm_bits prefix byte = bits_of (prefix % 2) (byte % 8) (omega arith) (omega arith)
 
-pub wide_is : (b : ℕ) → admits WidePrefix b ≡ true → b ≡ rex 1 (b / 4 % 2) 0 (b % 2)
+pub wide_is : (b : ℕ) → admits Wide b ≡ true → b ≡ rex 1 (b / 4 % 2) 0 (b % 2)
 wide_is b e = grind (arith, nat_tests)
 
-pub wide_of_one_is : (b : ℕ) → admits WidePrefixOfOne b ≡ true → b ≡ rex 1 0 0 (b % 2)
+pub wide_of_one_is : (b : ℕ) → admits WideOne b ≡ true → b ≡ rex 1 0 0 (b % 2)
 wide_of_one_is b e = grind (arith, nat_tests)
 
 pub mod_rm_is : (b : ℕ) → admits ModRm b ≡ true → b ≡ mod_rm (b / 8 % 8) (b % 8)
 mod_rm_is b e = grind (arith, nat_tests)
 
-pub with_register_is : (value b : ℕ) → admits (WithRegister value) b ≡ true → b ≡ 8 * (value / 8) + b % 8
+pub with_register_is : (value b : ℕ) → admits (Plus value) b ≡ true → b ≡ 8 * (value / 8) + b % 8
 with_register_is value b e = grind (arith, nat_tests)
 
 -- ---- what registers give is admitted, and read again
 
-pub wide_admitted : (r m : Reg) → admits WidePrefix (rex 1 (high r) 0 (high m)) ≡ true
+pub wide_admitted : (r m : Reg) → admits Wide (rex 1 (high r) 0 (high m)) ≡ true
 wide_admitted r m =
     let a : number r < 16 = number_below r in
     let b : number m < 16 = number_below m in
     grind (arith, nat_tests)
 
-pub wide_of_one_admitted : (m : Reg) → admits WidePrefixOfOne (rex 1 0 0 (high m)) ≡ true
+pub wide_of_one_admitted : (m : Reg) → admits WideOne (rex 1 0 0 (high m)) ≡ true
 wide_of_one_admitted m =
     let b : number m < 16 = number_below m in
     grind (arith, nat_tests)
@@ -91,7 +91,7 @@ wide_of_one_admitted m =
 pub mod_rm_admitted : (r m : Reg) → admits ModRm (mod_rm (low r) (low m)) ≡ true
 mod_rm_admitted r m = grind (arith, nat_tests)
 
-pub with_register_admitted : (k : ℕ) (m : Reg) → admits (WithRegister (8 * k)) (8 * k + low m) ≡ true
+pub with_register_admitted : (k : ℕ) (m : Reg) → admits (Plus (8 * k)) (8 * k + low m) ≡ true
 with_register_admitted k m = grind (arith, nat_tests)
 
 pub reg_field_is : (prefix byte : ℕ) (r : Reg) → prefix / 4 % 2 ≡ high r → byte / 8 % 8 ≡ low r → reg_field prefix byte ≡ r

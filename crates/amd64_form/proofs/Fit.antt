@@ -5,7 +5,7 @@ use Rattle.std.proofs.lemmas.Bool.Decides.{nat_tests}
 use Rattle.std.proofs.lemmas.List.{length-map, drop_all}
 use Rattle.std.proofs.Math.Seq.{drop-cons}
 use Rattle.amd64_form.specs.declared.form.Part.{Part}
-use Rattle.amd64_form.specs.declared.form.Part.TheVariants.{Byte, WidePrefix, WidePrefixOfOne, WithRegister, ModRm, Constant}
+use Rattle.amd64_form.specs.declared.form.Part.TheVariants.{Byte, Wide, WideOne, Plus, ModRm, Any}
 use Rattle.amd64_form.specs.declared.form.Fit.{Fit}
 use Rattle.amd64_form.specs.declared.form.Fit.TheVariants.{Whole, Front, Apart}
 use Rattle.amd64_form.specs.Form.{admits, fit}
@@ -48,25 +48,25 @@ fit_part (p ∷ ps) (b ∷ bs) more e lt =
 
 -- where the bytes end before the parts
 pub breaks_off : (ps : List Part) (bs : List ℕ) (i : ℕ) → i < length ps → length bs ≤ i → fit (drop i ps) (drop i bs) ≡ Front
-breaks_off ps bs i lt le = rw (drop_all i bs le, drop-cons ps i Constant lt) refl
+breaks_off ps bs i lt le = rw (drop_all i bs le, drop-cons ps i Any lt) refl
 
 -- ---- what completes a part of an encoding
 
 abbrev pub least : Part → ℕ
 least (Byte value) = value
-least WidePrefix = 0x48
-least WidePrefixOfOne = 0x48
-least (WithRegister value) = value
+least Wide = 0x48
+least WideOne = 0x48
+least (Plus value) = value
 least ModRm = 0xC0
-least Constant = 0
+least Any = 0
 
 least_admitted : (p : Part) → admits p (least p) ≡ true
 least_admitted (Byte value) = grind arith
-least_admitted WidePrefix = refl
-least_admitted WidePrefixOfOne = refl
-least_admitted (WithRegister value) = grind arith
+least_admitted Wide = refl
+least_admitted WideOne = refl
+least_admitted (Plus value) = grind arith
 least_admitted ModRm = refl
-least_admitted Constant = refl
+least_admitted Any = refl
 
 least_fit : (ps : List Part) → fit ps (map least ps) ≡ Whole
 least_fit [] = refl
@@ -91,19 +91,19 @@ completed (p ∷ ps) (b ∷ bs) e =
 -- the greatest byte that a part admits
 abbrev pub most : Part → ℕ
 most (Byte value) = value
-most WidePrefix = 0x4D
-most WidePrefixOfOne = 0x49
-most (WithRegister value) = 8 * (value / 8) + 7
+most Wide = 0x4D
+most WideOne = 0x49
+most (Plus value) = 8 * (value / 8) + 7
 most ModRm = 255
-most Constant = 255
+most Any = 255
 
 admitted_at_most : (p : Part) (b : ℕ) → admits p b ≡ true → b ≤ most p
 admitted_at_most (Byte value) b e = grind (arith, nat_tests)
-admitted_at_most WidePrefix b e = grind (arith, nat_tests)
-admitted_at_most WidePrefixOfOne b e = grind (arith, nat_tests)
-admitted_at_most (WithRegister value) b e = grind (arith, nat_tests)
+admitted_at_most Wide b e = grind (arith, nat_tests)
+admitted_at_most WideOne b e = grind (arith, nat_tests)
+admitted_at_most (Plus value) b e = grind (arith, nat_tests)
 admitted_at_most ModRm b e = grind (arith, nat_tests)
-admitted_at_most Constant b e = grind (arith, nat_tests)
+admitted_at_most Any b e = grind (arith, nat_tests)
 
 -- every number below n passes the test
 abbrev pub all_below : (ℕ → Bool) → ℕ → Bool

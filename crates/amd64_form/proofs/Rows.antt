@@ -7,7 +7,7 @@ use Rattle.std.proofs.lemmas.List.{drop-drop}
 use Rattle.amd64_form.specs.declared.reg.Reg.{Reg}
 use Rattle.amd64_form.specs.declared.inst.Inst.{Inst}
 use Rattle.amd64_form.specs.declared.inst.Inst.TheVariants.{Move, LoadConstant, Add, AddConstant, Push, Pop, Syscall}
-use Rattle.amd64_form.specs.declared.form.Part.TheVariants.{Byte, WithRegister, Constant}
+use Rattle.amd64_form.specs.declared.form.Part.TheVariants.{Byte, Plus, Any}
 use Rattle.amd64_form.specs.declared.form.Fit.TheVariants.{Whole}
 use Rattle.amd64_form.specs.declared.form.Form.{Form}
 use Rattle.amd64_form.specs.declared.form.Form.TheVariants as forms
@@ -28,7 +28,7 @@ pub record IsEncoding (f : Form) (bs : List ℕ) : Type 0 where
 
 load_constant_whole : (bs : List ℕ) → fits forms.LoadConstant bs ≡ Whole → IsEncoding forms.LoadConstant bs
 load_constant_whole bs e =
-    let h = wide_opcode_whole 23 (replicate 8 Constant) bs e in
+    let h = wide_opcode_whole 23 (replicate 8 Any) bs e in
     let c = constant_64_whole (drop 2 bs) h.fits in
     let r : Reg = rm_field (slice_index bs 0) (slice_index bs 1) in
     let rest : drop 8 (drop 2 bs) ≡ drop 10 bs = drop-drop 8 2 bs in
@@ -40,7 +40,7 @@ load_constant_whole bs e =
 
 add_constant_whole : (bs : List ℕ) → fits forms.AddConstant bs ≡ Whole → IsEncoding forms.AddConstant bs
 add_constant_whole bs e =
-    let h = one_register_whole 0x81 0 (replicate 4 Constant) bs e in
+    let h = one_register_whole 0x81 0 (replicate 4 Any) bs e in
     let c = constant_32_whole (drop 3 bs) h.fits in
     let r : Reg = rm_field (slice_index bs 0) (slice_index bs 2) in
     let rest : drop 4 (drop 3 bs) ≡ drop 7 bs = drop-drop 4 3 bs in
@@ -82,8 +82,8 @@ pub record IsReadAgain (i : Inst) (rest : List ℕ) : Type 0 where
 -- an instruction of a register in an opcode, whose two forms are these
 short_again : (i : Reg → Inst) (k : ℕ) (low_form high_form : Form) (r : Reg) (rest : List ℕ)
     → ((s : Reg) → encoding (i s) ≡ short_register (8 * k) s)
-    → parts_of low_form ≡ WithRegister (8 * k) ∷ []
-    → parts_of high_form ≡ Byte 0x41 ∷ WithRegister (8 * k) ∷ []
+    → parts_of low_form ≡ Plus (8 * k) ∷ []
+    → parts_of high_form ≡ Byte 0x41 ∷ Plus (8 * k) ∷ []
     → ((bs : List ℕ) → inst_of low_form bs ≡ i (rm_field 0 (slice_index bs 0)))
     → ((bs : List ℕ) → inst_of high_form bs ≡ i (rm_field (slice_index bs 0) (slice_index bs 1)))
     → Has FORMS low_form → Has FORMS high_form → IsReadAgain (i r) rest
@@ -121,7 +121,7 @@ is_read_again (LoadConstant to value) rest h =
     record {
       form = forms.LoadConstant;
       known = has_at FORMS 1 forms.LoadConstant refl;
-      whole = wide_opcode_fits 23 to (replicate 8 Constant) (constant_64 value ++ rest) (constant_64_fits value rest);
+      whole = wide_opcode_fits 23 to (replicate 8 Any) (constant_64 value ++ rest) (constant_64_fits value rest);
       is = ap (λ r. LoadConstant r (from_le_bytes w64 (take 8 (constant_64 value ++ rest)))) (wide_opcode_field 23 to) ∙ ap (LoadConstant to) (constant_64_field value rest h);
       all = refl;
     }
@@ -132,7 +132,7 @@ is_read_again (AddConstant to value) rest h =
     record {
       form = forms.AddConstant;
       known = has_at FORMS 3 forms.AddConstant refl;
-      whole = one_register_fits 0x81 0 to (replicate 4 Constant) (constant_32 value ++ rest) (constant_32_fits value rest);
+      whole = one_register_fits 0x81 0 to (replicate 4 Any) (constant_32 value ++ rest) (constant_32_fits value rest);
       is = ap (λ r. AddConstant r (cast_signed w32 (from_le_bytes w32 (take 4 (constant_32 value ++ rest))))) (one_register_field 0 to) ∙ ap (AddConstant to) (constant_32_field value rest h);
       all = refl;
     }

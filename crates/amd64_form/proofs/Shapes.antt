@@ -10,7 +10,7 @@ use Rattle.std.proofs.Math.Facts.{sfits_to_z, Fits-of_z}
 use Rattle.std.proofs.lemmas.Int.{ints, of_z-to_z, to_z-of_z}
 use Rattle.amd64_form.specs.declared.reg.Reg.{Reg}
 use Rattle.amd64_form.specs.declared.form.Part.{Part}
-use Rattle.amd64_form.specs.declared.form.Part.TheVariants.{Byte, WidePrefix, WidePrefixOfOne, WithRegister, ModRm, Constant}
+use Rattle.amd64_form.specs.declared.form.Part.TheVariants.{Byte, Wide, WideOne, Plus, ModRm, Any}
 use Rattle.amd64_form.specs.declared.form.Fit.{Fit}
 use Rattle.amd64_form.specs.declared.form.Fit.TheVariants.{Whole, Front, Apart}
 use Rattle.amd64_form.specs.Reg.{number, high, low, register}
@@ -45,10 +45,10 @@ byte_admitted value = grind (arith, nat_tests)
 
 -- ---- two registers
 
-pub two_registers_whole : (opcode : ℕ) (bs : List ℕ) → fit (WidePrefix ∷ Byte opcode ∷ ModRm ∷ []) bs ≡ Whole
+pub two_registers_whole : (opcode : ℕ) (bs : List ℕ) → fit (Wide ∷ Byte opcode ∷ ModRm ∷ []) bs ≡ Whole
     → bs ≡ two_registers opcode (reg_field (slice_index bs 0) (slice_index bs 2)) (rm_field (slice_index bs 0) (slice_index bs 2)) ++ drop 3 bs
 two_registers_whole opcode bs e =
-    let x = cell WidePrefix (Byte opcode ∷ ModRm ∷ []) bs e in
+    let x = cell Wide (Byte opcode ∷ ModRm ∷ []) bs e in
     let y = cell (Byte opcode) (ModRm ∷ []) x.others x.fits in
     let z = cell ModRm [] y.others y.fits in
     let is : bs ≡ x.first ∷ y.first ∷ z.first ∷ z.others = cc (x.is, y.is, z.is) in
@@ -60,7 +60,7 @@ two_registers_whole opcode bs e =
     subst (λ (s : List ℕ). s ≡ two_registers opcode (reg_field (slice_index s 0) (slice_index s 2)) (rm_field (slice_index s 0) (slice_index s 2)) ++ drop 3 s) (sym is) cc
 
 pub record TwoRegistersRead (opcode : ℕ) (r m : Reg) (rest : List ℕ) : Type 0 where
-  pub whole : fit (WidePrefix ∷ Byte opcode ∷ ModRm ∷ []) (two_registers opcode r m ++ rest) ≡ Whole
+  pub whole : fit (Wide ∷ Byte opcode ∷ ModRm ∷ []) (two_registers opcode r m ++ rest) ≡ Whole
   pub reg : reg_field (rex 1 (high r) 0 (high m)) (mod_rm (low r) (low m)) ≡ r
   pub rm : rm_field (rex 1 (high r) 0 (high m)) (mod_rm (low r) (low m)) ≡ m
 
@@ -70,7 +70,7 @@ two_registers_read opcode r m rest =
     let b : number m < 16 = number_below m in
     record {
       whole =
-          one_more WidePrefix (Byte opcode ∷ ModRm ∷ []) (rex 1 (high r) 0 (high m)) (opcode ∷ mod_rm (low r) (low m) ∷ rest) (wide_admitted r m)
+          one_more Wide (Byte opcode ∷ ModRm ∷ []) (rex 1 (high r) 0 (high m)) (opcode ∷ mod_rm (low r) (low m) ∷ rest) (wide_admitted r m)
           (one_more (Byte opcode) (ModRm ∷ []) opcode (mod_rm (low r) (low m) ∷ rest) (byte_admitted opcode)
           (one_more ModRm [] (mod_rm (low r) (low m)) rest (mod_rm_admitted r m) refl));
       reg = reg_field_is _ _ r (omega arith) (omega arith);
@@ -83,11 +83,11 @@ pub record OneRegisterIs (opcode digit : ℕ) (ps : List Part) (bs : List ℕ) :
   pub is : bs ≡ one_register opcode digit (rm_field (slice_index bs 0) (slice_index bs 2)) ++ drop 3 bs
   pub fits : fit ps (drop 3 bs) ≡ Whole
 
-pub one_register_whole : (opcode digit : ℕ) (ps : List Part) (bs : List ℕ) → fit (WidePrefixOfOne ∷ Byte opcode ∷ WithRegister (0xC0 + 8 * digit) ∷ ps) bs ≡ Whole → OneRegisterIs opcode digit ps bs
+pub one_register_whole : (opcode digit : ℕ) (ps : List Part) (bs : List ℕ) → fit (WideOne ∷ Byte opcode ∷ Plus (0xC0 + 8 * digit) ∷ ps) bs ≡ Whole → OneRegisterIs opcode digit ps bs
 one_register_whole opcode digit ps bs e =
-    let x = cell WidePrefixOfOne (Byte opcode ∷ WithRegister (0xC0 + 8 * digit) ∷ ps) bs e in
-    let y = cell (Byte opcode) (WithRegister (0xC0 + 8 * digit) ∷ ps) x.others x.fits in
-    let z = cell (WithRegister (0xC0 + 8 * digit)) ps y.others y.fits in
+    let x = cell WideOne (Byte opcode ∷ Plus (0xC0 + 8 * digit) ∷ ps) bs e in
+    let y = cell (Byte opcode) (Plus (0xC0 + 8 * digit) ∷ ps) x.others x.fits in
+    let z = cell (Plus (0xC0 + 8 * digit)) ps y.others y.fits in
     let is : bs ≡ x.first ∷ y.first ∷ z.first ∷ z.others = cc (x.is, y.is, z.is) in
     let rm = rm_bits x.first z.first in
     let a : x.first ≡ rex 1 0 0 (high (rm_field x.first z.first)) = rw rm.0 (wide_of_one_is x.first x.admitted) in
@@ -97,12 +97,12 @@ one_register_whole opcode digit ps bs e =
     rw rm.1 (omega arith) in
     subst (λ (s : List ℕ). OneRegisterIs opcode digit ps s) (sym is) (record { is = cc; fits = z.fits })
 
-pub one_register_fits : (opcode digit : ℕ) (m : Reg) (ps : List Part) (rest : List ℕ) → fit ps rest ≡ Whole → fit (WidePrefixOfOne ∷ Byte opcode ∷ WithRegister (0xC0 + 8 * digit) ∷ ps) (one_register opcode digit m ++ rest) ≡ Whole
+pub one_register_fits : (opcode digit : ℕ) (m : Reg) (ps : List Part) (rest : List ℕ) → fit ps rest ≡ Whole → fit (WideOne ∷ Byte opcode ∷ Plus (0xC0 + 8 * digit) ∷ ps) (one_register opcode digit m ++ rest) ≡ Whole
 one_register_fits opcode digit m ps rest e =
-    let d : admits (WithRegister (0xC0 + 8 * digit)) (mod_rm digit (low m)) ≡ true = grind (arith, nat_tests) in
-    one_more WidePrefixOfOne (Byte opcode ∷ WithRegister (0xC0 + 8 * digit) ∷ ps) (rex 1 0 0 (high m)) (opcode ∷ mod_rm digit (low m) ∷ rest) (wide_of_one_admitted m)
-    (one_more (Byte opcode) (WithRegister (0xC0 + 8 * digit) ∷ ps) opcode (mod_rm digit (low m) ∷ rest) (byte_admitted opcode)
-    (one_more (WithRegister (0xC0 + 8 * digit)) ps (mod_rm digit (low m)) rest d e))
+    let d : admits (Plus (0xC0 + 8 * digit)) (mod_rm digit (low m)) ≡ true = grind (arith, nat_tests) in
+    one_more WideOne (Byte opcode ∷ Plus (0xC0 + 8 * digit) ∷ ps) (rex 1 0 0 (high m)) (opcode ∷ mod_rm digit (low m) ∷ rest) (wide_of_one_admitted m)
+    (one_more (Byte opcode) (Plus (0xC0 + 8 * digit) ∷ ps) opcode (mod_rm digit (low m) ∷ rest) (byte_admitted opcode)
+    (one_more (Plus (0xC0 + 8 * digit)) ps (mod_rm digit (low m)) rest d e))
 
 pub one_register_field : (digit : ℕ) (m : Reg) → rm_field (rex 1 0 0 (high m)) (mod_rm digit (low m)) ≡ m
 one_register_field digit m =
@@ -115,10 +115,10 @@ pub record WideOpcodeIs (k : ℕ) (ps : List Part) (bs : List ℕ) : Type 0 wher
   pub is : bs ≡ rex 1 0 0 (high (rm_field (slice_index bs 0) (slice_index bs 1))) ∷ (8 * k + low (rm_field (slice_index bs 0) (slice_index bs 1))) ∷ drop 2 bs
   pub fits : fit ps (drop 2 bs) ≡ Whole
 
-pub wide_opcode_whole : (k : ℕ) (ps : List Part) (bs : List ℕ) → fit (WidePrefixOfOne ∷ WithRegister (8 * k) ∷ ps) bs ≡ Whole → WideOpcodeIs k ps bs
+pub wide_opcode_whole : (k : ℕ) (ps : List Part) (bs : List ℕ) → fit (WideOne ∷ Plus (8 * k) ∷ ps) bs ≡ Whole → WideOpcodeIs k ps bs
 wide_opcode_whole k ps bs e =
-    let x = cell WidePrefixOfOne (WithRegister (8 * k) ∷ ps) bs e in
-    let y = cell (WithRegister (8 * k)) ps x.others x.fits in
+    let x = cell WideOne (Plus (8 * k) ∷ ps) bs e in
+    let y = cell (Plus (8 * k)) ps x.others x.fits in
     let is : bs ≡ x.first ∷ y.first ∷ y.others = cc (x.is, y.is) in
     let rm = rm_bits x.first y.first in
     let a : x.first ≡ rex 1 0 0 (high (rm_field x.first y.first)) = rw rm.0 (wide_of_one_is x.first x.admitted) in
@@ -127,10 +127,10 @@ wide_opcode_whole k ps bs e =
     rw rm.1 (omega arith) in
     subst (λ (s : List ℕ). WideOpcodeIs k ps s) (sym is) (record { is = cc; fits = y.fits })
 
-pub wide_opcode_fits : (k : ℕ) (m : Reg) (ps : List Part) (rest : List ℕ) → fit ps rest ≡ Whole → fit (WidePrefixOfOne ∷ WithRegister (8 * k) ∷ ps) (rex 1 0 0 (high m) ∷ (8 * k + low m) ∷ rest) ≡ Whole
+pub wide_opcode_fits : (k : ℕ) (m : Reg) (ps : List Part) (rest : List ℕ) → fit ps rest ≡ Whole → fit (WideOne ∷ Plus (8 * k) ∷ ps) (rex 1 0 0 (high m) ∷ (8 * k + low m) ∷ rest) ≡ Whole
 wide_opcode_fits k m ps rest e =
-    one_more WidePrefixOfOne (WithRegister (8 * k) ∷ ps) (rex 1 0 0 (high m)) ((8 * k + low m) ∷ rest) (wide_of_one_admitted m)
-    (one_more (WithRegister (8 * k)) ps (8 * k + low m) rest (with_register_admitted k m) e)
+    one_more WideOne (Plus (8 * k) ∷ ps) (rex 1 0 0 (high m)) ((8 * k + low m) ∷ rest) (wide_of_one_admitted m)
+    (one_more (Plus (8 * k)) ps (8 * k + low m) rest (with_register_admitted k m) e)
 
 pub wide_opcode_field : (k : ℕ) (m : Reg) → rm_field (rex 1 0 0 (high m)) (8 * k + low m) ≡ m
 wide_opcode_field k m =
@@ -149,9 +149,9 @@ short_high opcode r le =
     let t : ltb (number r) 8 ≡ false = grind (arith, nat_tests) in
     rw t refl
 
-pub short_low_whole : (k : ℕ) (bs : List ℕ) → fit (WithRegister (8 * k) ∷ []) bs ≡ Whole → (bs ≡ short_register (8 * k) (rm_field 0 (slice_index bs 0)) ++ drop 1 bs) × (length (short_register (8 * k) (rm_field 0 (slice_index bs 0))) ≡ 1)
+pub short_low_whole : (k : ℕ) (bs : List ℕ) → fit (Plus (8 * k) ∷ []) bs ≡ Whole → (bs ≡ short_register (8 * k) (rm_field 0 (slice_index bs 0)) ++ drop 1 bs) × (length (short_register (8 * k) (rm_field 0 (slice_index bs 0))) ≡ 1)
 short_low_whole k bs e =
-    let x = cell (WithRegister (8 * k)) [] bs e in
+    let x = cell (Plus (8 * k)) [] bs e in
     let r : Reg = rm_field 0 x.first in
     let rm = rm_bits 0 x.first in
     let lt : number r < 8 = omega (arith, rm.0) in
@@ -162,11 +162,11 @@ short_low_whole k bs e =
     subst (λ (s : List ℕ). (s ≡ short_register (8 * k) (rm_field 0 (slice_index s 0)) ++ drop 1 s) × (length (short_register (8 * k) (rm_field 0 (slice_index s 0))) ≡ 1)) (sym x.is)
     (ap (λ (s : List ℕ). s ++ x.others) (sym is), ap length is)
 
-pub short_high_whole : (k : ℕ) (bs : List ℕ) → fit (Byte 0x41 ∷ WithRegister (8 * k) ∷ []) bs ≡ Whole
+pub short_high_whole : (k : ℕ) (bs : List ℕ) → fit (Byte 0x41 ∷ Plus (8 * k) ∷ []) bs ≡ Whole
     → (bs ≡ short_register (8 * k) (rm_field (slice_index bs 0) (slice_index bs 1)) ++ drop 2 bs) × (length (short_register (8 * k) (rm_field (slice_index bs 0) (slice_index bs 1))) ≡ 2)
 short_high_whole k bs e =
-    let x = cell (Byte 0x41) (WithRegister (8 * k) ∷ []) bs e in
-    let y = cell (WithRegister (8 * k)) [] x.others x.fits in
+    let x = cell (Byte 0x41) (Plus (8 * k) ∷ []) bs e in
+    let y = cell (Plus (8 * k)) [] x.others x.fits in
     let b : x.first ≡ 0x41 = byte_is 0x41 x.first x.admitted in
     let at : bs ≡ x.first ∷ y.first ∷ y.others = cc (x.is, y.is) in
     let r : Reg = rm_field x.first y.first in
@@ -179,11 +179,11 @@ short_high_whole k bs e =
     subst (λ (s : List ℕ). (s ≡ short_register (8 * k) (rm_field (slice_index s 0) (slice_index s 1)) ++ drop 2 s) × (length (short_register (8 * k) (rm_field (slice_index s 0) (slice_index s 1))) ≡ 2)) (sym at)
     (ap (λ (s : List ℕ). s ++ y.others) (sym is), ap length is)
 
-pub short_low_fits : (k : ℕ) (r : Reg) (rest : List ℕ) → fit (WithRegister (8 * k) ∷ []) ((8 * k + low r) ∷ rest) ≡ Whole
-short_low_fits k r rest = one_more (WithRegister (8 * k)) [] _ rest (with_register_admitted k r) refl
+pub short_low_fits : (k : ℕ) (r : Reg) (rest : List ℕ) → fit (Plus (8 * k) ∷ []) ((8 * k + low r) ∷ rest) ≡ Whole
+short_low_fits k r rest = one_more (Plus (8 * k)) [] _ rest (with_register_admitted k r) refl
 
-pub short_high_fits : (k : ℕ) (r : Reg) (rest : List ℕ) → fit (Byte 0x41 ∷ WithRegister (8 * k) ∷ []) (0x41 ∷ (8 * k + low r) ∷ rest) ≡ Whole
-short_high_fits k r rest = one_more (Byte 0x41) (WithRegister (8 * k) ∷ []) 0x41 ((8 * k + low r) ∷ rest) refl (short_low_fits k r rest)
+pub short_high_fits : (k : ℕ) (r : Reg) (rest : List ℕ) → fit (Byte 0x41 ∷ Plus (8 * k) ∷ []) (0x41 ∷ (8 * k + low r) ∷ rest) ≡ Whole
+short_high_fits k r rest = one_more (Byte 0x41) (Plus (8 * k) ∷ []) 0x41 ((8 * k + low r) ∷ rest) refl (short_low_fits k r rest)
 
 pub short_low_field : (k : ℕ) (r : Reg) → number r < 8 → rm_field 0 (8 * k + low r) ≡ r
 short_low_field k r lt = rm_field_is 0 _ r (omega arith) (omega arith)
@@ -199,11 +199,11 @@ byte_below : (i n : ℕ) → byte_at i n < 256
 byte_below zero n = omega arith
 byte_below (suc i) n = omega arith
 
-constants_fit : (k i n : ℕ) (rest : List ℕ) → fit (replicate k Constant) (bytes_low_first i k n ++ rest) ≡ Whole
+constants_fit : (k i n : ℕ) (rest : List ℕ) → fit (replicate k Any) (bytes_low_first i k n ++ rest) ≡ Whole
 constants_fit zero i n rest = refl
 constants_fit (suc k) i n rest =
     let lt : byte_at i n < 256 = byte_below i n in
-    one_more Constant (replicate k Constant) _ _ (grind (arith, nat_tests)) (constants_fit k (suc i) n rest)
+    one_more Any (replicate k Any) _ _ (grind (arith, nat_tests)) (constants_fit k (suc i) n rest)
 
 pub record AreConstants (k : ℕ) (bs : List ℕ) : Type 0 where
   pub enough : k ≤ length bs
@@ -213,10 +213,10 @@ first_below : (b : ℕ) (bs : List ℕ) → b < 256 → ((i : ℕ) → get_or bs
 first_below b bs x y zero = x
 first_below b bs x y (suc i) = y i
 
-constants_whole : (k : ℕ) (bs : List ℕ) → fit (replicate k Constant) bs ≡ Whole → AreConstants k bs
+constants_whole : (k : ℕ) (bs : List ℕ) → fit (replicate k Any) bs ≡ Whole → AreConstants k bs
 constants_whole zero bs e = record { enough = omega arith; below = λ i. omega arith }
 constants_whole (suc k) bs e =
-    let x = cell Constant (replicate k Constant) bs e in
+    let x = cell Any (replicate k Any) bs e in
     let rest = constants_whole k x.others x.fits in
     let first : x.first < 256 = ltb-true x.first 256 x.admitted in
     subst (AreConstants (suc k)) (sym x.is) (record { enough = omega (arith, rest.enough); below = first_below x.first (take k x.others) first rest.below })
@@ -225,7 +225,7 @@ pub record Constant64Is (bs : List ℕ) : Type 0 where
   pub is : bs ≡ constant_64 (from_le_bytes w64 (take 8 bs)) ++ drop 8 bs
   pub below : from_le_bytes w64 (take 8 bs) < 2 ^ 64
 
-pub constant_64_whole : (bs : List ℕ) → fit (replicate 8 Constant) bs ≡ Whole → Constant64Is bs
+pub constant_64_whole : (bs : List ℕ) → fit (replicate 8 Any) bs ≡ Whole → Constant64Is bs
 constant_64_whole bs e =
     let c = constants_whole 8 bs e in
     let back : constant_64 (from_le_bytes w64 (take 8 bs)) ≡ take 8 bs = le_bytes_8 (take 8 bs) _ (omega (arith, length-take 8 bs, c.enough)) c.below refl in
@@ -234,7 +234,7 @@ constant_64_whole bs e =
       below = omega (arith, c.below 0, c.below 1, c.below 2, c.below 3, c.below 4, c.below 5, c.below 6, c.below 7);
     }
 
-pub constant_64_fits : (value : ℕ) (rest : List ℕ) → fit (replicate 8 Constant) (constant_64 value ++ rest) ≡ Whole
+pub constant_64_fits : (value : ℕ) (rest : List ℕ) → fit (replicate 8 Any) (constant_64 value ++ rest) ≡ Whole
 constant_64_fits value rest = constants_fit 8 0 value rest
 
 pub constant_64_field : (value : ℕ) (rest : List ℕ) → value < 2 ^ 64 → from_le_bytes w64 (take 8 (constant_64 value ++ rest)) ≡ value
@@ -244,7 +244,7 @@ pub record Constant32Is (bs : List ℕ) : Type 0 where
   pub is : bs ≡ constant_32 (cast_signed w32 (from_le_bytes w32 (take 4 bs))) ++ drop 4 bs
   pub fits : FitsSigned w32 (cast_signed w32 (from_le_bytes w32 (take 4 bs)))
 
-pub constant_32_whole : (bs : List ℕ) → fit (replicate 4 Constant) bs ≡ Whole → Constant32Is bs
+pub constant_32_whole : (bs : List ℕ) → fit (replicate 4 Any) bs ≡ Whole → Constant32Is bs
 constant_32_whole bs e =
     let c = constants_whole 4 bs e in
     let n : ℕ = from_le_bytes w32 (take 4 bs) in
@@ -256,7 +256,7 @@ constant_32_whole bs e =
       fits = sfits_to_z {w = w32} {n = n} (omega arith);
     }
 
-pub constant_32_fits : (value : ℤ) (rest : List ℕ) → fit (replicate 4 Constant) (constant_32 value ++ rest) ≡ Whole
+pub constant_32_fits : (value : ℤ) (rest : List ℕ) → fit (replicate 4 Any) (constant_32 value ++ rest) ≡ Whole
 constant_32_fits value rest = constants_fit 4 0 (cast_unsigned w32 value) rest
 
 pub constant_32_field : (value : ℤ) (rest : List ℕ) → FitsSigned w32 value → cast_signed w32 (from_le_bytes w32 (take 4 (constant_32 value ++ rest))) ≡ value

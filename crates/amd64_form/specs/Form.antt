@@ -5,7 +5,7 @@ use Rattle.amd64_form.specs.declared.reg.Reg.{Reg}
 use Rattle.amd64_form.specs.declared.inst.Inst.{Inst}
 use Rattle.amd64_form.specs.declared.inst.Inst.TheVariants.{Move, LoadConstant, Add, AddConstant, Push, Pop, Syscall}
 use Rattle.amd64_form.specs.declared.form.Part.{Part}
-use Rattle.amd64_form.specs.declared.form.Part.TheVariants.{Byte, WidePrefix, WidePrefixOfOne, WithRegister, ModRm, Constant}
+use Rattle.amd64_form.specs.declared.form.Part.TheVariants.{Byte, Wide, WideOne, Plus, ModRm, Any}
 use Rattle.amd64_form.specs.declared.form.Fit.{Fit}
 use Rattle.amd64_form.specs.declared.form.Fit.TheVariants.{Whole, Front, Apart}
 use Rattle.amd64_form.specs.declared.form.Form.{Form}
@@ -16,21 +16,21 @@ use Rattle.amd64_form.specs.Reg.{register}
 
 abbrev pub admits : Part → ℕ → Bool
 admits (Byte value) b = b == value
-admits WidePrefix b = b == 0x48 || b == 0x49 || b == 0x4C || b == 0x4D
-admits WidePrefixOfOne b = b == 0x48 || b == 0x49
-admits (WithRegister value) b = b / 8 == value / 8
+admits Wide b = b == 0x48 || b == 0x49 || b == 0x4C || b == 0x4D
+admits WideOne b = b == 0x48 || b == 0x49
+admits (Plus value) b = b / 8 == value / 8
 admits ModRm b = nat_le 0xC0 b && nat_lt b 256
-admits Constant b = nat_lt b 256
+admits Any b = nat_lt b 256
 
 abbrev pub parts_of : Form → List Part
-parts_of forms.Move = WidePrefix ∷ Byte 0x89 ∷ ModRm ∷ []
-parts_of forms.LoadConstant = WidePrefixOfOne ∷ WithRegister 0xB8 ∷ replicate 8 Constant
-parts_of forms.Add = WidePrefix ∷ Byte 0x01 ∷ ModRm ∷ []
-parts_of forms.AddConstant = WidePrefixOfOne ∷ Byte 0x81 ∷ WithRegister 0xC0 ∷ replicate 4 Constant
-parts_of forms.PushLow = WithRegister 0x50 ∷ []
-parts_of forms.PushHigh = Byte 0x41 ∷ WithRegister 0x50 ∷ []
-parts_of forms.PopLow = WithRegister 0x58 ∷ []
-parts_of forms.PopHigh = Byte 0x41 ∷ WithRegister 0x58 ∷ []
+parts_of forms.Move = Wide ∷ Byte 0x89 ∷ ModRm ∷ []
+parts_of forms.LoadConstant = WideOne ∷ Plus 0xB8 ∷ replicate 8 Any
+parts_of forms.Add = Wide ∷ Byte 0x01 ∷ ModRm ∷ []
+parts_of forms.AddConstant = WideOne ∷ Byte 0x81 ∷ Plus 0xC0 ∷ replicate 4 Any
+parts_of forms.PushLow = Plus 0x50 ∷ []
+parts_of forms.PushHigh = Byte 0x41 ∷ Plus 0x50 ∷ []
+parts_of forms.PopLow = Plus 0x58 ∷ []
+parts_of forms.PopHigh = Byte 0x41 ∷ Plus 0x58 ∷ []
 parts_of forms.Syscall = Byte 0x0F ∷ Byte 0x05 ∷ []
 
 -- how bytes stand to these parts

@@ -13,20 +13,20 @@ pub enum Part {
     /// This value alone.
     Byte(u8),
 
-    /// A REX prefix with W set, X clear, and the top bits of two registers in R and B.
-    WidePrefix,
+    /// A REX prefix with W set and X clear: R and B are the top bits of two registers.
+    Wide,
 
-    /// A REX prefix with W set, R and X clear, and the top bit of a register in B.
-    WidePrefixOfOne,
+    /// A REX prefix with W set, R and X clear: B is the top bit of a register.
+    WideOne,
 
-    /// This value, a multiple of 8, and a register in the low three bits.
-    WithRegister(u8),
+    /// This value, a multiple of 8, plus the low three bits of a register.
+    Plus(u8),
 
-    /// A ModRM byte in register mode, with a register in each field.
+    /// A ModRM byte in register mode: the low three bits of two registers.
     ModRm,
 
-    /// A byte of a constant: any.
-    Constant,
+    /// A byte of a constant.
+    Any,
 }
 
 impl Part {
@@ -35,11 +35,11 @@ impl Part {
     {
         match self {
             Part::Byte(value) => byte == value,
-            Part::WidePrefix => matches!(byte, 0x48 | 0x49 | 0x4C | 0x4D),
-            Part::WidePrefixOfOne => matches!(byte, 0x48 | 0x49),
-            Part::WithRegister(value) => byte / 8 == value / 8,
+            Part::Wide => matches!(byte, 0x48 | 0x49 | 0x4C | 0x4D),
+            Part::WideOne => matches!(byte, 0x48 | 0x49),
+            Part::Plus(value) => byte / 8 == value / 8,
             Part::ModRm => matches!(byte, 0xC0..=0xFF),
-            Part::Constant => true,
+            Part::Any => true,
         }
     }
 }
@@ -93,33 +93,14 @@ impl Form {
         use Part::*;
 
         match self {
-            Form::Move => &[WidePrefix, Byte(0x89), ModRm],
-            Form::LoadConstant => &[
-                WidePrefixOfOne,
-                WithRegister(0xB8),
-                Constant,
-                Constant,
-                Constant,
-                Constant,
-                Constant,
-                Constant,
-                Constant,
-                Constant,
-            ],
-            Form::Add => &[WidePrefix, Byte(0x01), ModRm],
-            Form::AddConstant => &[
-                WidePrefixOfOne,
-                Byte(0x81),
-                WithRegister(0xC0),
-                Constant,
-                Constant,
-                Constant,
-                Constant,
-            ],
-            Form::PushLow => &[WithRegister(0x50)],
-            Form::PushHigh => &[Byte(0x41), WithRegister(0x50)],
-            Form::PopLow => &[WithRegister(0x58)],
-            Form::PopHigh => &[Byte(0x41), WithRegister(0x58)],
+            Form::Move => &[Wide, Byte(0x89), ModRm],
+            Form::LoadConstant => &[WideOne, Plus(0xB8), Any, Any, Any, Any, Any, Any, Any, Any],
+            Form::Add => &[Wide, Byte(0x01), ModRm],
+            Form::AddConstant => &[WideOne, Byte(0x81), Plus(0xC0), Any, Any, Any, Any],
+            Form::PushLow => &[Plus(0x50)],
+            Form::PushHigh => &[Byte(0x41), Plus(0x50)],
+            Form::PopLow => &[Plus(0x58)],
+            Form::PopHigh => &[Byte(0x41), Plus(0x58)],
             Form::Syscall => &[Byte(0x0F), Byte(0x05)],
         }
     }

@@ -8,11 +8,12 @@
 //! System Instructions, chapter 1 "Instruction Encoding" and appendix A "Opcode and Operand Encodings".
 //!
 //! - `reg.rt`: the sixteen registers of 64 bits
-//! - `inst.rt`: the instructions, and their text in the usual assembler's words
+//! - `inst.rt`: the instructions
 //! - `bytes.rt`: the bytes of one instruction
 //! - `encoding.rt`: from an instruction to its bytes
 //! - `form.rt`: the table of forms, each with the bytes that it has
 //! - `decoding.rt`: from bytes to the instruction at their front
+//! - `text.rt`: the text of registers and instructions
 //! - `specs/`: `Reg` and `Inst`, the numbers of registers and the ranges of constants; `Encoding`, the
 //!   bytes of each instruction; `Form`, how the table is read
 #![tactic(auto)]
@@ -23,9 +24,13 @@ mod encoding;
 mod form;
 mod inst;
 mod reg;
+mod text;
 
 pub use bytes::Bytes;
 pub use decoding::{DecodeFault, decode, one_spelling};
 pub use encoding::encode;
 pub use inst::Inst;
 pub use reg::Reg;
+
+#[cfg(test)]
+mod tests;
