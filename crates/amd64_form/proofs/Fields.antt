@@ -1,11 +1,11 @@
 -- Registers and their bits in the bytes of an encoding.
-use Rattle.std.proofs.Common.{◌≡◌, ℕ, ◌+◌, ◌*◌, ◌/◌, ◌%◌, ◌<◌, ◌≤◌, Bool, true, false, eqb, List, [], ◌∷◌, ◌++◌, suc, zero, refl, sym, ap, subst, ◌∙◌, arith, get_or, lit<}
+use Rattle.std.proofs.Common.{◌≡◌, ℕ, ◌+◌, ◌*◌, ◌/◌, ◌%◌, ◌<◌, true, eqb, refl, ap, ◌∙◌, arith, lit<}
 use Rattle.std.proofs.lemmas.Bool.{eqb-true}
 use Rattle.std.proofs.lemmas.Bool.Decides.{nat_tests}
 use Rattle.amd64_form.specs.declared.reg.Reg.{Reg}
 use Rattle.amd64_form.specs.declared.reg.Reg.TheVariants.{Rax, Rcx, Rdx, Rbx, Rsp, Rbp, Rsi, Rdi, R8, R9, R10, R11, R12, R13, R14, R15}
 use Rattle.amd64_form.specs.declared.form.Part.TheVariants.{Wide, WideOne, Plus, ModRm}
-use Rattle.amd64_form.specs.Reg.{number, high, low, registers, register}
+use Rattle.amd64_form.specs.Reg.{number, high, low, register}
 use Rattle.amd64_form.specs.Encoding.{rex, mod_rm}
 use Rattle.amd64_form.proofs.Fit.{at_below}
 use Rattle.amd64_form.specs.Form.{admits, reg_field, rm_field}

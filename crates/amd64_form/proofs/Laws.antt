@@ -1,7 +1,7 @@
 -- What the table of forms reads, in the words of encodings.
 use Rattle.std.proofs.Common.{◌≡◌, ◌≢◌, ℕ, ◌+◌, ◌<◌, List, [], ◌∷◌, ◌++◌, length, drop, Result, Ok, Err, refl, sym, ap, subst, ◌∙◌, arith}
 use Rattle.std.specs.Prelude.{IfOk, ◌↔◌}
-use Rattle.std.proofs.lemmas.List.{append-nil, length-append, drop_all, drop_at, nil_from_length}
+use Rattle.std.proofs.lemmas.List.{append-nil, length-append, drop_all, drop_at}
 use Rattle.amd64_form.specs.declared.inst.Inst.{Inst}
 use Rattle.amd64_form.specs.declared.decoding.DecodeFault.{DecodeFault}
 use Rattle.amd64_form.specs.declared.decoding.DecodeFault.TheVariants.{Short, Unknown}
@@ -10,7 +10,7 @@ use Rattle.amd64_form.specs.declared.form.Form.{Form}
 use Rattle.amd64_form.specs.declared.form.TheConstants.{FORMS}
 use Rattle.amd64_form.specs.Inst.{IsInst}
 use Rattle.amd64_form.specs.Encoding.{encoding, BeginsWithInst, IsPartOfInst}
-use Rattle.amd64_form.specs.Form.{fit, parts_of, inst_of, reading}
+use Rattle.amd64_form.specs.Form.{parts_of, inst_of, reading}
 use Rattle.amd64_form.proofs.Fit.{fit_part, completed}
 use Rattle.amd64_form.proofs.Table.{fits, IsReadBy, read_is_whole, short_is_front, whole_is_read, front_is_short}
 use Rattle.amd64_form.proofs.Rows.{IsEncoding, is_encoding, IsReadAgain, is_read_again}

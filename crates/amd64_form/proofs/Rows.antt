@@ -1,5 +1,5 @@
 -- Each form, in both directions. A new form has a line in each of these lists.
-use Rattle.std.proofs.Common.{◌≡◌, ℕ, ◌+◌, ◌*◌, ◌<◌, ◌≤◌, Bool, true, false, cond, List, [], ◌∷◌, ◌++◌, length, drop, take, Some, refl, sym, ap, subst, ◌∙◌, arith, inl, inr, append_assoc, replicate}
+use Rattle.std.proofs.Common.{◌≡◌, ℕ, ◌+◌, ◌*◌, List, [], ◌∷◌, ◌++◌, length, drop, take, refl, sym, ap, subst, ◌∙◌, inl, inr, replicate}
 use Rattle.std.specs.Prelude.{slice_index}
 use Rattle.std.specs.Int.{w32, w64, from_le_bytes, cast_signed}
 use Rattle.std.proofs.lemmas.Bool.{cases_lt}
@@ -14,8 +14,8 @@ use Rattle.amd64_form.specs.declared.form.Form.TheVariants as forms
 use Rattle.amd64_form.specs.declared.form.TheConstants.{FORMS}
 use Rattle.amd64_form.specs.Reg.{number, high, low}
 use Rattle.amd64_form.specs.Inst.{IsInst}
-use Rattle.amd64_form.specs.Encoding.{rex, encoding, two_registers, one_register, short_register, constant_32, constant_64}
-use Rattle.amd64_form.specs.Form.{fit, parts_of, inst_of, rm_field, reg_field}
+use Rattle.amd64_form.specs.Encoding.{rex, encoding, one_register, short_register, constant_32, constant_64}
+use Rattle.amd64_form.specs.Form.{fit, parts_of, inst_of, rm_field}
 use Rattle.amd64_form.proofs.Table.{Has, has_at, fits}
 use Rattle.amd64_form.proofs.Shapes.{cell, byte_is, two_registers_whole, two_registers_read, one_register_whole, one_register_fits, one_register_field, wide_opcode_whole, wide_opcode_fits, wide_opcode_field, short_low, short_high, short_low_whole, short_high_whole, short_low_fits, short_high_fits, short_low_field, short_high_field, constant_64_whole, constant_64_fits, constant_64_field, constant_32_whole, constant_32_fits, constant_32_field}
 

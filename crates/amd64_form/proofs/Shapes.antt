@@ -1,22 +1,21 @@
 -- The shapes of encodings, each in both directions: bytes that fit its parts are such an encoding, and such an encoding fits them.
-use Rattle.std.proofs.Common.{◌≡◌, ℕ, zero, suc, ◌+◌, ◌*◌, ◌/◌, ◌%◌, ◌<◌, ◌≤◌, ◌^◌, Bool, true, false, cond, List, [], ◌∷◌, ◌++◌, length, take, drop, replicate, get_or, refl, sym, ap, subst, ◌∙◌, arith, eqb, ltb, ℤ, Fits}
+use Rattle.std.proofs.Common.{◌≡◌, ℕ, zero, suc, ◌+◌, ◌*◌, ◌/◌, ◌%◌, ◌<◌, ◌≤◌, ◌^◌, true, false, List, [], ◌∷◌, ◌++◌, length, take, drop, replicate, get_or, refl, sym, ap, subst, ◌∙◌, arith, ltb, ℤ, Fits}
 use Rattle.std.specs.Prelude.{slice_index, FitsSigned}
 use Rattle.std.specs.Int.{w32, w64, byte_at, bytes_low_first, to_le_bytes, from_le_bytes, cast_unsigned, cast_signed}
 use Rattle.std.proofs.lemmas.Bool.{eqb-true, ltb-true}
 use Rattle.std.proofs.lemmas.Bool.Decides.{nat_tests}
-use Rattle.std.proofs.lemmas.List.{take-append-drop, length-take, take_at, drop_at}
+use Rattle.std.proofs.lemmas.List.{take-append-drop, length-take, take_at}
 use Rattle.std.proofs.lemmas.Nat.{le_bytes_4, le_bytes_8, from_le_bytes-to_le_bytes_4, from_le_bytes-to_le_bytes_8}
 use Rattle.std.proofs.Math.Facts.{sfits_to_z, Fits-of_z}
-use Rattle.std.proofs.lemmas.Int.{ints, of_z-to_z, to_z-of_z}
+use Rattle.std.proofs.lemmas.Int.{of_z-to_z, to_z-of_z}
 use Rattle.amd64_form.specs.declared.reg.Reg.{Reg}
 use Rattle.amd64_form.specs.declared.form.Part.{Part}
 use Rattle.amd64_form.specs.declared.form.Part.TheVariants.{Byte, Wide, WideOne, Plus, ModRm, Any}
-use Rattle.amd64_form.specs.declared.form.Fit.{Fit}
-use Rattle.amd64_form.specs.declared.form.Fit.TheVariants.{Whole, Front, Apart}
-use Rattle.amd64_form.specs.Reg.{number, high, low, register}
+use Rattle.amd64_form.specs.declared.form.Fit.TheVariants.{Whole}
+use Rattle.amd64_form.specs.Reg.{number, high, low}
 use Rattle.amd64_form.specs.Encoding.{rex, mod_rm, two_registers, one_register, short_register, constant_64, constant_32}
 use Rattle.amd64_form.specs.Form.{admits, fit, reg_field, rm_field}
-use Rattle.amd64_form.proofs.Fit.{whole_test, passed, fit_length}
+use Rattle.amd64_form.proofs.Fit.{whole_test, passed}
 use Rattle.amd64_form.proofs.Fields.{number_below, reg_bits, rm_bits, wide_is, wide_of_one_is, mod_rm_is, with_register_is, wide_admitted, wide_of_one_admitted, mod_rm_admitted, with_register_admitted, reg_field_is, rm_field_is}
 
 -- ---- the first byte

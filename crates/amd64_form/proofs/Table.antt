@@ -1,10 +1,10 @@
 -- What the table of forms gives for some bytes.
-use Rattle.std.proofs.Common.{◌≡◌, ℕ, zero, suc, Option, Some, None, Bool, true, false, List, [], ◌∷◌, length, ◌&&◌, ◌⊎◌, Result, Ok, Err, refl, sym, ap, subst, ◌∙◌, inl, inr}
+use Rattle.std.proofs.Common.{◌≡◌, ℕ, zero, suc, Some, Bool, true, List, [], ◌∷◌, length, ◌&&◌, ◌⊎◌, Result, Ok, Err, refl, sym, ap, subst, ◌∙◌, inl, inr}
 use Rattle.std.specs.Prelude.{slice_get}
 use Rattle.std.specs.List.{list_all}
 use Rattle.amd64_form.specs.declared.inst.Inst.{Inst}
 use Rattle.amd64_form.specs.declared.decoding.DecodeFault.{DecodeFault}
-use Rattle.amd64_form.specs.declared.decoding.DecodeFault.TheVariants.{Short, Unknown}
+use Rattle.amd64_form.specs.declared.decoding.DecodeFault.TheVariants.{Short}
 use Rattle.amd64_form.specs.declared.form.Fit.{Fit}
 use Rattle.amd64_form.specs.declared.form.Fit.TheVariants.{Whole, Front, Apart}
 use Rattle.amd64_form.specs.declared.form.Form.{Form}

@@ -35,6 +35,7 @@ constant_64 value = to_le_bytes w64 value
 abbrev pub constant_32 : ℤ → List ℕ
 constant_32 value = to_le_bytes w32 (cast_unsigned w32 value)
 
+-- in the manual's notation: 89 /r; B8 +rq iq; 01 /r; 81 /0 id; 50 +rq; 58 +rq; 0F 05
 abbrev pub encoding : Inst → List ℕ
 encoding (Move to from) = two_registers 0x89 from to
 encoding (LoadConstant to value) = rex 1 0 0 (high to) ∷ (0xB8 + low to) ∷ constant_64 value

@@ -1,10 +1,10 @@
 //! The bytes of one instruction.
 
-ghost use Rattle.std.specs.Prelude.{◌≡◌, ◌+◌, ◌≤◌, ◌++◌, List, ℕ, length, take};
+ghost use Rattle.std.specs.Prelude.{◌≡◌, ◌+◌, ◌≤◌, ◌++◌, ◌↔◌, List, [], ℕ, IsTrue, length, take};
 
 use std::marker::Model;
 
-/// How many bytes an instruction has at most (the manual's volume 3, section 1.1).
+/// How many bytes an instruction has at most (the manual's volume 3, chapter 1).
 pub const LONGEST: usize = 15;
 
 /// The bytes of one instruction, at most 15. Contracts see them as their list.
@@ -60,5 +60,12 @@ impl Bytes {
         ensures bound { result ≤ 15 }
     {
         self.len
+    }
+
+    /// Whether there is no byte. What `encode` gives has one at least.
+    pub fn is_empty(&self) -> bool
+        ensures { IsTrue result ↔ (self.now ≡ []) }
+    {
+        self.len == 0
     }
 }

@@ -1,4 +1,8 @@
-//! The table of forms. To add an instruction, add its line to `Form`, `FORMS`, `parts` and `inst`.
+//! The table of forms, in the order in which `Inst` has the instructions.
+//!
+//! A new form has a line here in `Form`, `FORMS`, `parts` and `inst`, a line in `parts_of` and `inst_of`
+//! of `specs/Form.antt`, and a line in `is_encoding` and `is_read_again` of `proofs/Rows.antt`. That no
+//! two forms share bytes is computed from the table.
 
 ghost use Rattle.std.specs.Prelude.{◌≡◌, ◌≤◌, length, take};
 ghost use Rattle.std.specs.Int.{w32, w64, from_le_bytes, cast_signed};

@@ -15,7 +15,7 @@
 //! - `decoding.rt`: from bytes to the instruction at their front
 //! - `text.rt`: the text of registers and instructions
 //! - `specs/`: `Reg` and `Inst`, the numbers of registers and the ranges of constants; `Encoding`, the
-//!   bytes of each instruction; `Form`, how the table is read
+//!   bytes of each instruction; `Text`, what is printed; `Form`, how the table is read
 #![tactic(auto)]
 
 mod bytes;

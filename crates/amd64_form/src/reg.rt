@@ -25,7 +25,7 @@ pub enum Reg {
 }
 
 impl Reg {
-    /// The number by which an encoding names the register, 0 to 15 (the manual's volume 3, section 1.2).
+    /// The number by which an encoding names the register, 0 to 15 (the manual's volume 3, chapter 1).
     pub fn number(self) -> u8
         ensures number { result ≡ number self }
         ensures bound { result < 16 }

@@ -1,4 +1,4 @@
-use Rattle.std.proofs.Common.{◌≡◌, ◌∙◌, sym, arith}
+use Rattle.std.proofs.Common.{◌∙◌, sym, arith}
 use Rattle.amd64_form.proofs.Fit.{breaks_off}
 use Rattle.amd64_form.proofs.form.Form.fit.Goals as goal
 
