@@ -1,5 +1,5 @@
 -- Each form, in both directions. A new form has a line in each of these lists.
-use Rattle.std.proofs.Common.{◌≡◌, ℕ, ◌+◌, ◌*◌, List, [], ◌∷◌, ◌++◌, length, drop, take, refl, sym, ap, subst, ◌∙◌, inl, inr, replicate}
+use Rattle.std.proofs.Common.{◌≡◌, ℕ, ◌+◌, ◌*◌, List, [], ◌∷◌, ◌++◌, length, drop, take, rules, refl, sym, ap, subst, ◌∙◌, inl, inr, replicate}
 use Rattle.std.specs.Prelude.{slice_index}
 use Rattle.std.specs.Int.{w32, w64, from_le_bytes, cast_signed}
 use Rattle.std.proofs.lemmas.Bool.{cases_lt}
@@ -113,32 +113,43 @@ short_again i k low_form high_form r rest spelled low_parts high_parts low_is hi
           }
     ]
 
+in_table : (f : Form) → Has FORMS f
+in_table forms.Move = search rules
+in_table forms.LoadConstant = search rules
+in_table forms.Add = search rules
+in_table forms.AddConstant = search rules
+in_table forms.PushLow = search rules
+in_table forms.PushHigh = search rules
+in_table forms.PopLow = search rules
+in_table forms.PopHigh = search rules
+in_table forms.Syscall = search rules
+
 pub is_read_again : (i : Inst) (rest : List ℕ) → IsInst i → IsReadAgain i rest
 is_read_again (Move to from) rest h =
     let t = two_registers_read 0x89 from to rest in
-    record { form = forms.Move; known = has_at FORMS 0 forms.Move refl; whole = t.whole; is = cc (t.reg, t.rm); all = refl }
+    record { form = forms.Move; known = in_table forms.Move; whole = t.whole; is = cc (t.reg, t.rm); all = refl }
 is_read_again (LoadConstant to value) rest h =
     record {
       form = forms.LoadConstant;
-      known = has_at FORMS 1 forms.LoadConstant refl;
+      known = in_table forms.LoadConstant;
       whole = wide_opcode_fits 23 to (replicate 8 Any) (constant_64 value ++ rest) (constant_64_fits value rest);
       is = ap (λ r. LoadConstant r (from_le_bytes w64 (take 8 (constant_64 value ++ rest)))) (wide_opcode_field 23 to) ∙ ap (LoadConstant to) (constant_64_field value rest h);
       all = refl;
     }
 is_read_again (Add to from) rest h =
     let t = two_registers_read 0x01 from to rest in
-    record { form = forms.Add; known = has_at FORMS 2 forms.Add refl; whole = t.whole; is = cc (t.reg, t.rm); all = refl }
+    record { form = forms.Add; known = in_table forms.Add; whole = t.whole; is = cc (t.reg, t.rm); all = refl }
 is_read_again (AddConstant to value) rest h =
     record {
       form = forms.AddConstant;
-      known = has_at FORMS 3 forms.AddConstant refl;
+      known = in_table forms.AddConstant;
       whole = one_register_fits 0x81 0 to (replicate 4 Any) (constant_32 value ++ rest) (constant_32_fits value rest);
       is = ap (λ r. AddConstant r (cast_signed w32 (from_le_bytes w32 (take 4 (constant_32 value ++ rest))))) (one_register_field 0 to) ∙ ap (AddConstant to) (constant_32_field value rest h);
       all = refl;
     }
 is_read_again (Push r) rest h =
-    short_again Push 10 forms.PushLow forms.PushHigh r rest (λ s. refl) refl refl (λ bs. refl) (λ bs. refl) (has_at FORMS 4 forms.PushLow refl) (has_at FORMS 5 forms.PushHigh refl)
+    short_again Push 10 forms.PushLow forms.PushHigh r rest (λ s. refl) refl refl (λ bs. refl) (λ bs. refl) (in_table forms.PushLow) (in_table forms.PushHigh)
 is_read_again (Pop r) rest h =
-    short_again Pop 11 forms.PopLow forms.PopHigh r rest (λ s. refl) refl refl (λ bs. refl) (λ bs. refl) (has_at FORMS 6 forms.PopLow refl) (has_at FORMS 7 forms.PopHigh refl)
+    short_again Pop 11 forms.PopLow forms.PopHigh r rest (λ s. refl) refl refl (λ bs. refl) (λ bs. refl) (in_table forms.PopLow) (in_table forms.PopHigh)
 is_read_again Syscall rest h =
-    record { form = forms.Syscall; known = has_at FORMS 8 forms.Syscall refl; whole = refl; is = refl; all = refl }
+    record { form = forms.Syscall; known = in_table forms.Syscall; whole = refl; is = refl; all = refl }
