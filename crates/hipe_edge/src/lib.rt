@@ -17,12 +17,16 @@
 //   adapters.rt   `StdSource` and `StdSink`, over the readers and writers of `std::io`
 #![tactic(auto)]
 
+pub mod in_memory;
 pub mod reading;
 pub mod streams;
+pub mod sure;
 pub mod writing;
 
-pub use reading::{ReadAllFault, read_all};
+pub use in_memory::{MemSink, MemSource};
+pub use reading::{READ_PIECE, ReadAllFault, read_all};
 pub use streams::{Failed, Sink, Source};
+pub use sure::{CountSink, SureSource};
 pub use writing::{LINE_PIECE, WriteFault, write_line, write_piece, write_pieces};
 
 /// Want of memory, the error of each call that allocates and fails in no other way.

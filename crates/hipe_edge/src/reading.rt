@@ -59,11 +59,11 @@ pub fn read_all<S: Source>(
     let mut bytes = Vec::new(alloc);
     loop {
         let wanting = most - bytes.len();
-        let asked = wanting.min(READ_PIECE);
-        match source.read(&mut buffer[..asked]) {
+        let into = &mut buffer[..wanting.min(READ_PIECE)];
+        match source.read(into) {
             Ok(0) => return Ok(bytes),
             Ok(n) if n == wanting => return Err(ReadAllFault::TooLong),
-            Ok(n) => bytes.extend_from_slice(&buffer[..n])?,
+            Ok(n) => bytes.extend_from_slice(&into[..n])?,
             Err(_) => return Err(ReadAllFault::ReadFault),
         }
     }
