@@ -1,6 +1,7 @@
 -- What reads and writes in a row do to known bytes.
-use Rattle.std.proofs.Common.{◌≡◌, ℕ, List, [], ◌++◌, Option, Some, None, refl, sym, ap, subst, ◌∙◌, append_assoc, append-nil, length, take, drop, ◌-◌, arith, take_all, length-drop, take-append-drop}
-use lib.Seq.{take-append_seam}
+use Rattle.std.proofs.Common.{◌≡◌, ℕ, List, [], ◌++◌, Option, Some, None, refl, sym, ap, subst, ◌∙◌, append_assoc, append-nil, length, take, drop, ◌+◌, ◌-◌, ◌≤◌, arith, length-take-le, take_all, length-drop, take-append-drop}
+use Rattle.std.proofs.Math.Seq.{take-append_seam}
+use Rattle.std.proofs.lemmas.List.{drop-drop}
 use Rattle.std.specs.Io.KnownBytes.{Appends, Keeps}
 use Rattle.std.proofs.KnownBytes.{Appends-nil, Appends-trans, Appends-kept}
 use Rattle.hipe_edge.specs.Bytes.{AppendsPrefix}
@@ -43,3 +44,16 @@ AppendsFront-kept a b c bytes rest p kept =
 pub take-append-from : (n : ℕ) (xs : List ℕ) → xs ≡ take n xs ++ take (length xs - n) (drop n xs)
 take-append-from n xs =
     sym (take-append-drop n xs) ∙ ap (λ (l : List ℕ). take n xs ++ l) (sym (take_all (length xs - n) (drop n xs) (omega (arith, length-drop n xs))))
+
+-- what a read copied out of the bytes from at on is a front of them
+pub read_front : (n at : ℕ) (bytes all copied rest : List ℕ) → all ≡ bytes → copied ≡ take n (take (length all - at) (drop at all))
+    → n ≤ length (take (length all - at) (drop at all)) → drop at bytes ≡ take n (copied ++ rest) ++ drop (at + n) bytes
+read_front n at bytes all copied rest same e fits =
+    let left : take (length all - at) (drop at all) ≡ drop at bytes =
+    take_all (length all - at) (drop at all) (omega (arith, length-drop at all)) ∙ ap (drop at) same in
+    let copy : copied ≡ take n (drop at bytes) = e ∙ ap (take n) left in
+    let size : length copied ≡ n =
+    ap length copy ∙ length-take-le n (drop at bytes) (subst (λ (l : List ℕ). n ≤ length l) left fits) in
+    let front : take n (copied ++ rest) ≡ take n (drop at bytes) =
+    ap (λ (k : ℕ). take k (copied ++ rest)) (sym size) ∙ take-append_seam copied rest ∙ copy in
+    sym (ap (λ (l : List ℕ). l ++ drop (at + n) bytes) front ∙ ap (λ (l : List ℕ). take n (drop at bytes) ++ l) (sym (drop-drop n at bytes)) ∙ take-append-drop n (drop at bytes))

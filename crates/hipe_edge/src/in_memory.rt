@@ -1,6 +1,6 @@
 // A source and a sink in memory, whose calls fail where they are told to.
-ghost use Rattle.std.specs.Prelude.{◌≡◌, ◌⊎◌, ◌↔◌, ℕ, ◌+◌, ◌<◌, min, List, [], ◌++◌, length, take, drop, Some, Ok, IsErr, is_err, IfOk, OnOk, OnErr, if◌then◌else◌, Contains};
-ghost use Rattle.hipe_edge.specs.Counts.{counted};
+ghost use Rattle.std.specs.Prelude.{◌≡◌, ◌⊎◌, ◌↔◌, ℕ, ◌+◌, ◌<◌, ◌≤◌, min, List, [], ◌++◌, length, take, drop, Some, Ok, IsErr, is_err, IfOk, OnOk, OnErr, if◌then◌else◌, Contains};
+ghost use Rattle.hipe_edge.specs.Counts.{counted, Rises};
 ghost use Rattle.hipe_edge.specs.InMemory.{SourceInMemory, SinkInMemory};
 
 use super::Memory;
@@ -51,11 +51,14 @@ impl Source for MemSource {
         ensures calls { self.new.calls ≡ counted self.old.calls }
         ensures fails { IsErr result ↔ Contains self.old.fails self.new.calls }
         ensures count { IfOk result (λ n. n ≡ min (length into.old) (length self.old.bytes)) }
+        ensures bound { IfOk result (λ n. n ≤ length into.new) }
         ensures taken { IfOk result (λ n. self.old.bytes ≡ take n into.new ++ self.new.bytes) }
         ensures beyond { IfOk result (λ n. drop n into.new ≡ drop n into.old) }
         ensures kept { OnErr result ((self.new.bytes ≡ self.old.bytes) × (into.new ≡ into.old)) }
         ensures faults { self.new.faults
             ≡ (if is_err result then counted self.old.faults else self.old.faults) }
+        ensures faults_never_fall { self.old.faults ≤ self.new.faults }
+        ensures failed { OnErr result (Rises self.old.faults self.new.faults) }
         ensures same { self.new.fails ≡ self.old.fails }
     {
         self.calls = self.calls.saturating_add(1);
@@ -134,6 +137,8 @@ impl Sink for MemSink {
         ensures kept { OnErr result (self.new.bytes ≡ self.old.bytes) }
         ensures faults { self.new.faults
             ≡ (if is_err result then counted self.old.faults else self.old.faults) }
+        ensures faults_never_fall { self.old.faults ≤ self.new.faults }
+        ensures failed { OnErr result (Rises self.old.faults self.new.faults) }
         ensures same { (self.new.room ≡ self.old.room) × (self.new.fails ≡ self.old.fails) }
     {
         self.calls = self.calls.saturating_add(1);

@@ -17,12 +17,14 @@
 //   adapters.rt   `StdSource` and `StdSink`, over the readers and writers of `std::io`
 #![tactic(auto)]
 
+pub mod adapters;
 pub mod in_memory;
 pub mod reading;
 pub mod streams;
 pub mod sure;
 pub mod writing;
 
+pub use adapters::{StdSink, StdSource};
 pub use in_memory::{MemSink, MemSource};
 pub use reading::{READ_PIECE, ReadAllFault, read_all};
 pub use streams::{Failed, Sink, Source};

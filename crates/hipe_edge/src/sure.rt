@@ -1,5 +1,5 @@
 // A source and a sink that never fail.
-ghost use Rattle.std.specs.Prelude.{◌≡◌, ℕ, ◌+◌, min, List, ◌++◌, length, take, drop, Some, None, Ok, IfOk};
+ghost use Rattle.std.specs.Prelude.{◌≡◌, ℕ, ◌+◌, ◌≤◌, min, List, ◌++◌, length, take, drop, Some, None, Ok, IfOk};
 ghost use Rattle.std.specs.Io.Iter.{u64_saturate};
 
 use super::streams::{Failed, Sink, Source};
@@ -41,6 +41,7 @@ impl Source for SureSource {
     /// Gives as many bytes as fit.
     fn read(&mut self, into: &mut [u8]) -> Result<usize, Failed>
         ensures count { result ≡ Ok (min (length into.old) (length self.old)) }
+        ensures bound { IfOk result (λ n. n ≤ length into.new) }
         ensures taken { IfOk result (λ n. self.old ≡ take n into.new ++ self.new) }
         ensures beyond { IfOk result (λ n. drop n into.new ≡ drop n into.old) }
     {
