@@ -22,6 +22,8 @@ pub mod in_memory;
 pub mod reading;
 pub mod streams;
 pub mod sure;
+#[cfg(test)]
+mod tests;
 pub mod writing;
 
 pub use adapters::{StdSink, StdSource};

@@ -1,5 +1,5 @@
 -- The bytes so far are those that the source lost, and there is room for one more below the limit and one.
-use Rattle.std.proofs.Common.{◌≡◌, ℕ, ◌+◌, ◌-◌, ◌≤◌, min, length, vec_len}
+use Rattle.std.proofs.Common.{◌≡◌, ◌+◌, ◌-◌, ◌≤◌, min, vec_len}
 use Rattle.std.specs.Io.KnownBytes.{Consumes}
 use Rattle.hipe_edge.proofs.reading.read_all.Given as goal
 

@@ -1,5 +1,5 @@
 -- A front of the bytes was written, and the iterator has the rest.
-use Rattle.std.proofs.Common.{◌≡◌, ◌<◌, ◌≤◌}
+use Rattle.std.proofs.Common.{◌≤◌}
 use Rattle.hipe_edge.proofs.Known.{AppendsFront}
 use Rattle.hipe_edge.proofs.writing.write_pieces.Given as goal
 
