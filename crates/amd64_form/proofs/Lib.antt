@@ -3,4 +3,4 @@ mod Table
 mod Fields
 mod Shapes
 mod Rows
-mod Laws
+pub mod Laws
