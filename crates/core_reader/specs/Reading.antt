@@ -1,12 +1,12 @@
 -- What the steps of the reader give: what a text begins with, where there is such a thing, and what is left of the text.
-use Rattle.std.specs.Prelude.{◌≡◌, ℕ, zero, suc, ◌+◌, ◌-◌, ◌*◌, ◌==◌, nat_eq, nat_lt, ℤ, pos, neg_ℤ, Bool, true, false, ◌||◌, if◌then◌else◌, List, [], ◌∷◌, length, drop, take, slice_get, codes, Option, Some, None, Result, Ok, Err}
+use Rattle.std.specs.Prelude.{◌≡◌, ℕ, zero, suc, ◌+◌, ◌-◌, ◌*◌, ◌==◌, nat_eq, nat_lt, ℤ, pos, neg_ℤ, Bool, false, ◌||◌, if◌then◌else◌, List, [], ◌∷◌, length, drop, take, codes, Option, Some, None, Result, Ok, Err}
 use Rattle.std.specs.List.{prefix_len}
 use Rattle.std.specs.Cmp.Lexicographic.{pointwise}
 use Rattle.core_reader.specs.declared.sum.Sum.{Sum}
 use Rattle.core_reader.specs.declared.sum.SumRefusal.{SumRefusal}
 use Rattle.core_reader.specs.declared.sum.SumRefusal.TheVariants.{NotYet, Memory}
 use Rattle.core_reader.specs.Sums.{int_of, plus_of}
-use Rattle.core_reader.specs.Text.{is_space, is_digit, is_name_byte, is_word_byte, Token, Word, Sign, Name, before_sum, before_parts}
+use Rattle.core_reader.specs.Text.{is_space, is_digit, is_name_byte, is_word_byte, Token, Word, Sign, Name, exporting, no_attributes, before_sum, before_parts}
 
 infixl 10 ◌>>=◌
 abbrev pub ◌>>=◌ : {X Y : Type 0} → Option X → (X → Option Y) → Option Y
@@ -80,14 +80,20 @@ integer_at text = signed_at (skipped text)
 abbrev pub Found : Type 0
 Found = Option (Sum × List ℕ)
 
--- the closing parenthesis of a call
+-- what comes after the second part of a call
 abbrev pub closed : Sum → Sum × List ℕ → Found
 closed a b = after_sign (codes ")") b.1 >>= λ rest. Some (plus_of a b.0, rest)
 
--- the parts of a call, where go reads a part
+-- what comes after its first part, where go reads a part
+abbrev pub second_at : (List ℕ → Found) → Sum × List ℕ → Found
+second_at go a = after_sign (codes ",") a.1 >>= λ text. go text >>= closed a.0
+
+abbrev pub first_at : (List ℕ → Found) → List ℕ → Found
+first_at go text = go text >>= second_at go
+
+-- a call and its parts
 abbrev pub parts_at : (List ℕ → Found) → List ℕ → Found
-parts_at go text =
-    after_all before_parts text >>= λ us. go us >>= λ a. after_sign (codes ",") a.1 >>= λ vs. go vs >>= λ b. closed a.0 b
+parts_at go text = after_all before_parts text >>= first_at go
 
 abbrev pub integer_or : Option (ℤ × List ℕ) → Found → Found
 integer_or (Some p) other = Some (int_of p.0, p.1)
@@ -98,15 +104,30 @@ unfoldable pub sum_at : ℕ → List ℕ → Found
 sum_at zero text = None
 sum_at (suc levels) text = integer_or (integer_at text) (parts_at (sum_at levels) text)
 
--- nothing but white space
-abbrev pub is_blank : List ℕ → Bool
-is_blank text = length (skipped text) == 0
+-- the end of a module: nothing comes after it but white space
+abbrev pub is_blank : Option (List ℕ) → Bool
+is_blank None = false
+is_blank (Some text) = length (skipped text) == 0
+
+unfoldable pub is_end : List ℕ → Bool
+is_end text = is_blank (after_word (codes "end") text)
 
 abbrev pub ended : Sum × List ℕ → Option Sum
-ended p = after_word (codes "end") p.1 >>= λ rest. if is_blank rest then Some p.0 else None
+ended p = if is_end p.1 then Some p.0 else None
+
+-- what is left after all that stands before the sum
+abbrev pub definition_at : List ℕ → Option (List ℕ)
+definition_at text = after_all no_attributes text >>= after_all before_sum
+
+unfoldable pub body_at : List ℕ → Option (List ℕ)
+body_at text = after_all exporting text >>= definition_at
+
+-- a whole text
+abbrev pub whole_at : ℕ → List ℕ → Option Sum
+whole_at levels text = sum_at levels text >>= ended
 
 unfoldable pub read : ℕ → List ℕ → Option Sum
-read levels text = if nat_lt 65536 (length text) then None else (after_all before_sum text >>= λ us. sum_at levels us >>= ended)
+read levels text = if nat_lt 65536 (length text) then None else (body_at text >>= whole_at levels)
 
 -- A call's answer, seen by view, is what reading gives, unless memory ran out.
 abbrev pub Gives : {X Y : Type 0} → (X → Y) → Option Y → Result X SumRefusal → Type 0

@@ -1,7 +1,7 @@
 -- Sums, and what is counted in them.
 use Rattle.std.specs.Prelude.{ℕ, ◌+◌, ◌≤◌, max, ℤ, ◌+ℤ◌}
 use Rattle.std.specs.Int.RustNames.{unsigned_abs}
-use Rattle.core_reader.specs.declared.sum.Sum.{Sum, out-Sum, roll-Sum}
+use Rattle.core_reader.specs.declared.sum.Sum.{Sum, roll-Sum}
 use Rattle.core_reader.specs.declared.sum.Sum.TheOpen.{Sum-F}
 use Rattle.core_reader.specs.declared.sum.Sum.TheFolds.{fold-Sum}
 

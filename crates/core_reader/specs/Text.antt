@@ -77,12 +77,18 @@ pub data SpellsInteger : ℤ → List ℕ → Type 0 where
 abbrev pub BeginsInteger : ℤ → List ℕ → List ℕ → Type 0
 BeginsInteger n ts us = (cs : List ℕ) × Spaced ts (cs ++ us) × SpellsInteger n cs × BeginsWithout is_digit us
 
--- module NAME ['main'/0] attributes [] 'main'/0 = fun () ->
+-- module NAME ['main'/0]
+abbrev pub exporting : List Token
+exporting = Word (codes "module") ∷ Name ∷ Sign (codes "[") ∷ Sign (codes "'main'") ∷ Sign (codes "/") ∷ Sign (codes "0") ∷ Sign (codes "]") ∷ []
+
+-- attributes []
+abbrev pub no_attributes : List Token
+no_attributes = Word (codes "attributes") ∷ Sign (codes "[") ∷ Sign (codes "]") ∷ []
+
+-- 'main'/0 = fun () ->
 abbrev pub before_sum : List Token
 before_sum =
-    Word (codes "module") ∷ Name ∷ Sign (codes "[") ∷ Sign (codes "'main'") ∷ Sign (codes "/") ∷ Sign (codes "0") ∷ Sign (codes "]")
-    ∷ Word (codes "attributes") ∷ Sign (codes "[") ∷ Sign (codes "]")
-    ∷ Sign (codes "'main'") ∷ Sign (codes "/") ∷ Sign (codes "0") ∷ Sign (codes "=") ∷ Word (codes "fun") ∷ Sign (codes "(") ∷ Sign (codes ")") ∷ Sign (codes "->") ∷ []
+    Sign (codes "'main'") ∷ Sign (codes "/") ∷ Sign (codes "0") ∷ Sign (codes "=") ∷ Word (codes "fun") ∷ Sign (codes "(") ∷ Sign (codes ")") ∷ Sign (codes "->") ∷ []
 
 -- call 'erlang':'+'(
 abbrev pub before_parts : List Token
@@ -102,10 +108,14 @@ pub data BeginsSum : ℕ → Sum → List ℕ → List ℕ → Type 0 where
 -- A text of at most 65,536 bytes that is a module whose one function, of level 1, has this sum as its body, and nothing else but white space.
 pub record IsSumText (text : List ℕ) (e : Sum) : Type 0 where
   pub short : length text ≤ 65536
+  pub from_attributes : List ℕ
+  pub from_definition : List ℕ
   pub from_sum : List ℕ
   pub from_end : List ℕ
   pub rest : List ℕ
-  pub head : BeginsAll before_sum text from_sum
+  pub head : BeginsAll exporting text from_attributes
+  pub attributes : BeginsAll no_attributes from_attributes from_definition
+  pub definition : BeginsAll before_sum from_definition from_sum
   pub body : BeginsSum 2 e from_sum from_end
   pub last : Begins (Word (codes "end")) from_end rest
   pub blank : Spaced rest []

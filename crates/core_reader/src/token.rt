@@ -82,6 +82,7 @@ fn begins_with_word_byte(text: &[u8]) -> bool
 }
 
 /// What is left after a sign, if there is one behind white space.
+#[tactic(auto, unfolding(crate::specs::Reading::after_sign))]
 pub fn after_sign<'a>(text: &'a [u8], sign: &[u8]) -> Option<&'a [u8]>
     ensures { option_copied result ≡ after_sign sign.now text.now }
 {
@@ -89,6 +90,7 @@ pub fn after_sign<'a>(text: &'a [u8], sign: &[u8]) -> Option<&'a [u8]>
 }
 
 /// What is left after a word, if it is there and doesn't go on.
+#[tactic(auto, unfolding(crate::specs::Reading::after_word))]
 pub fn after_word<'a>(text: &'a [u8], word: &[u8]) -> Option<&'a [u8]>
     ensures { option_copied result ≡ after_word word.now text.now }
 {
@@ -111,6 +113,7 @@ fn after_quoted(text: &[u8]) -> Option<&[u8]>
 }
 
 /// What is left after a module's name, if it is there.
+#[tactic(auto, unfolding(crate::specs::Reading::after_name))]
 pub fn after_name(text: &[u8]) -> Option<&[u8]>
     ensures { option_copied result ≡ after_name text.now }
 {
@@ -118,6 +121,7 @@ pub fn after_name(text: &[u8]) -> Option<&[u8]>
 }
 
 // The number that digits stand for.
+#[tactic(auto, using(crate::proofs::Numbers::number_stops))]
 fn number(digits: &[u8]) -> u32
     requires { number_from 0 digits.now < 2 ^ 32 }
     ensures { result ≡ number_from 0 digits.now }
@@ -129,6 +133,7 @@ fn number(digits: &[u8]) -> u32
     n
 }
 
+#[tactic(auto, using(crate::proofs::Numbers::few_digits), unfolding(crate::specs::Reading::digits_at))]
 fn unsigned(text: &[u8]) -> Option<(u32, &[u8])>
     ensures { option_map (λ p. (p.0, p.1.now)) result ≡ digits_at text.now }
 {
@@ -140,6 +145,7 @@ fn unsigned(text: &[u8]) -> Option<(u32, &[u8])>
 }
 
 /// The integer at the front, behind white space or not, and what is left after it.
+#[tactic(auto, unfolding(crate::specs::Reading::integer_at))]
 pub fn integer(text: &[u8]) -> Option<(i64, &[u8])>
     ensures { option_map (λ p. (p.0, p.1.now)) result ≡ integer_at text.now }
 {
