@@ -1,5 +1,5 @@
 -- What is counted in a sum, by what the sum is made of.
-use Rattle.std.proofs.Common.{◌≡◌, ℕ, ◌+◌, max, ℤ, refl, sym, ◌∙◌}
+use Rattle.std.proofs.Common.{◌≡◌, ℕ, ◌+◌, max, ℤ, ◌+ℤ◌, refl, sym, ◌∙◌}
 use Rattle.std.specs.Int.RustNames.{unsigned_abs}
 use Rattle.core_reader.specs.declared.sum.Sum.{Sum, out-Sum}
 use Rattle.core_reader.specs.declared.sum.Sum.TheOpen.{Sum-F}
@@ -45,6 +45,14 @@ unfolding farthest
 farthest_is e = fold_out-Sum ℕ farthest_at e ∙ farthest_level (out-Sum e)
 
 -- the same of an integer and of a sum of two
+pub value-int : (n : ℤ) → value (int_of n) ≡ n
+unfolding value int_of
+value-int n = fold-roll-Sum ℤ value_at (Sum-F.Int n)
+
+pub value-plus : (a b : Sum) → value (plus_of a b) ≡ value a +ℤ value b
+unfolding value plus_of
+value-plus a b = fold-roll-Sum ℤ value_at (Sum-F.Plus a b)
+
 pub count-int : (n : ℤ) → count_of (int_of n) ≡ 1
 unfolding count_of int_of
 count-int n = fold-roll-Sum ℕ count_at (Sum-F.Int n)

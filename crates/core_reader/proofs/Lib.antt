@@ -6,3 +6,4 @@ pub mod Numbers
 pub mod Sums
 pub mod Texts
 pub mod Tokens
+pub mod Values

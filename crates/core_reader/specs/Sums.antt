@@ -1,5 +1,5 @@
 -- Sums, and what is counted in them.
-use Rattle.std.specs.Prelude.{ℕ, ◌+◌, ◌≤◌, max, ℤ, ◌+ℤ◌}
+use Rattle.std.specs.Prelude.{ℕ, ◌+◌, ◌≤◌, max, ℤ, pos, neg_ℤ, ◌+ℤ◌, ◌≤ℤ◌}
 use Rattle.std.specs.Int.RustNames.{unsigned_abs}
 use Rattle.core_reader.specs.declared.sum.Sum.{Sum, roll-Sum}
 use Rattle.core_reader.specs.declared.sum.Sum.TheOpen.{Sum-F}
@@ -49,7 +49,11 @@ farthest = fold-Sum ℕ farthest_at
 abbrev pub HasSmallIntegers : Sum → Type 0
 HasSmallIntegers e = farthest e ≤ 999999
 
--- the same by what a sum is made of
+-- an integer from -n to n
+abbrev pub IsWithin : ℕ → ℤ → Type 0
+IsWithin n z = (neg_ℤ (pos n) ≤ℤ z) × (z ≤ℤ pos n)
+
+-- value, count_of, levels_of and farthest by what a sum is made of
 abbrev pub level_value : Sum-F Sum → ℤ
 level_value (Sum-F.Int n) = n
 level_value (Sum-F.Plus a b) = value a +ℤ value b

@@ -18,4 +18,4 @@ mod sum;
 mod token;
 
 pub use read::read_sum;
-pub use sum::{Sum, SumRefusal};
+pub use sum::{Sum, SumRefusal, value_of_small_integers};

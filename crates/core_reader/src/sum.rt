@@ -1,5 +1,9 @@
 //! Sums, and why a text is none.
 
+ghost use Rattle.std.specs.Prelude.{◌*◌, ◌+◌, ◌<◌, ◌≤◌};
+ghost use Rattle.core_reader.specs.declared.sum.Sum.{Sum as ASum};
+ghost use Rattle.core_reader.specs.Sums.{count_of, value, HasSmallIntegers, IsWithin};
+
 use sqlite_items::Boxed;
 use std::alloc::AllocError;
 
@@ -30,4 +34,11 @@ impl From<AllocError> for SumRefusal {
     fn from(_error: AllocError) -> SumRefusal {
         SumRefusal::Memory
     }
+}
+
+/// What a sum of integers from -999,999 to 999,999 comes to is at most 999,999 times as far from 0 as
+/// it has integers.
+pub fn value_of_small_integers()
+    ensures { (e : ASum) → HasSmallIntegers e → IsWithin (999999 * count_of e) (value e) }
+{
 }
