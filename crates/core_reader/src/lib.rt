@@ -15,6 +15,8 @@
 
 mod read;
 mod sum;
+#[cfg(test)]
+mod tests;
 mod token;
 
 pub use read::read_sum;

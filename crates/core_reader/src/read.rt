@@ -10,7 +10,7 @@ ghost use Rattle.core_reader.specs.Reading.{after_all, body_at, parts_at, sum_at
 use crate::sum::{Sum, SumRefusal};
 use crate::token::{after_name, after_sign, after_spaces, after_word, integer};
 use sqlite_items::Boxed;
-use std::alloc::{AllocError, Global};
+use std::alloc::Global;
 
 // The most bytes of a text.
 const LONGEST_TEXT: usize = 65_536;

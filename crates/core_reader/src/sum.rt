@@ -40,5 +40,4 @@ impl From<AllocError> for SumRefusal {
 /// it has integers.
 pub fn value_of_small_integers()
     ensures { (e : ASum) → HasSmallIntegers e → IsWithin (999999 * count_of e) (value e) }
-{
-}
+{}

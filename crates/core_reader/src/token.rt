@@ -15,25 +15,25 @@ const MOST_DIGITS: usize = 6;
 fn is_space(b: u8) -> bool
     ensures { result ≡ is_space b }
 {
-    (9 <= b && b <= 13) || b == b' '
+    matches!(b, b'\t'..=b'\r' | b' ')
 }
 
 fn is_digit(b: u8) -> bool
     ensures { result ≡ is_digit b }
 {
-    b'0' <= b && b <= b'9'
+    b.is_ascii_digit()
 }
 
 fn is_name_byte(b: u8) -> bool
     ensures { result ≡ is_name_byte b }
 {
-    (b'a' <= b && b <= b'z') || is_digit(b) || b == b'_'
+    b.is_ascii_lowercase() || b.is_ascii_digit() || b == b'_'
 }
 
 fn is_word_byte(b: u8) -> bool
     ensures { result ≡ is_word_byte b }
 {
-    is_name_byte(b) || (b'A' <= b && b <= b'Z') || b == b'@'
+    b.is_ascii_alphanumeric() || b == b'_' || b == b'@'
 }
 
 // The text from its byte n on.
