@@ -56,9 +56,9 @@ whole_found levels le text f false is h =
       blank = z.1.2;
     }
 
-pub text_found : (text : List ℕ) (e : Sum) → read 999 text ≡ Some e → IsSumText text e
+pub text_found : (levels : ℕ) → levels + 1 ≡ greatest_level → (text : List ℕ) (e : Sum) → read levels text ≡ Some e → IsSumText text e
 unfolding read
-text_found text e h = whole_found 999 (omega arith) text e (nat_lt 65536 (length text)) refl h
+text_found levels most text e h = whole_found levels (omega arith) text e (nat_lt 65536 (length text)) refl h
 
 exporting_shows : AllShow exporting
 exporting_shows = ((λ us. refl), (tt, ((λ us. refl), ((λ us. refl), ((λ us. refl), ((λ us. refl), ((λ us. refl), tt)))))))
@@ -84,8 +84,9 @@ whole_there {e = e} levels deep t =
     bound (sum_at levels t.from_sum) ended (e, t.from_end) (sum_there t.body levels deep)
     ∙ ap (λ b. cond b (Some e) None) (end_there t.from_end t.rest t.last t.blank)
 
-pub text_there : (text : List ℕ) (e : Sum) → IsSumText text e → read 999 text ≡ Some e
+pub text_there : (levels : ℕ) → levels + 1 ≡ greatest_level → (text : List ℕ) (e : Sum) → IsSumText text e → read levels text ≡ Some e
 unfolding read
-text_there text e t =
-    ap (λ b. cond b None (body_at text >>= whole_at 999)) (short_text (length text) t.short)
-    ∙ bound (body_at text) (whole_at 999) t.from_sum (body_there t) ∙ whole_there 999 (omega arith) t
+text_there levels most text e t =
+    ap (λ b. cond b None (body_at text >>= whole_at levels)) (short_text (length text) t.short)
+    ∙ bound (body_at text) (whole_at levels) t.from_sum (body_there t)
+    ∙ whole_there levels (omega arith) t

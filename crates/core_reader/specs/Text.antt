@@ -28,22 +28,23 @@ abbrev pub BeginsWithout : (ℕ → Bool) → List ℕ → Type 0
 BeginsWithout test [] = Unit {0}
 BeginsWithout test (c ∷ us) = test c ≡ false
 
--- white space, or nothing, and then us
+-- white space or nothing, and then us
 pub data Spaced : List ℕ → List ℕ → Type 0 where
   here : {us : List ℕ} → Spaced us us
   space : {c : ℕ} {ts us : List ℕ} → is_space c ≡ true → Spaced ts us → Spaced (c ∷ ts) us
 
--- a token: a word or a sign as it is spelled, where an atom in its quotes and the arity 0 count as signs, or the name of the module
+-- a token that isn't an integer of the sum: a word or a sign as it is spelled, or the name of the module. An atom in its quotes and the arity 0
+-- count as signs: where the arity stands only `]` or `=` goes on.
 pub data Token : Type 0 where
   Word : List ℕ → Token
   Sign : List ℕ → Token
   Name : Token
 
--- 1 to 255 bytes
+-- 1 to 255 small letters, digits or '_'
 abbrev pub IsName : List ℕ → Type 0
 IsName cs = AreAll is_name_byte cs × (1 ≤ length cs) × (length cs ≤ 255)
 
--- the bytes of a token before a text us: the longest token is taken, so no byte that would make a word longer comes after it
+-- The bytes of a token, where us comes after it. The longest token is taken, so nothing that would make a word longer comes after it.
 pub data Spells : Token → List ℕ → List ℕ → Type 0 where
   word : {cs us : List ℕ} → BeginsWithout is_word_byte us → Spells (Word cs) cs us
   sign : {cs us : List ℕ} → Spells (Sign cs) cs us
@@ -105,7 +106,8 @@ pub data BeginsSum : ℕ → Sum → List ℕ → List ℕ → Type 0 where
       BeginsAll before_parts ts us → BeginsSum (k + 1) a us vs → Begins (Sign (codes ",")) vs ws → BeginsSum (k + 1) b ws xs → Begins (Sign (codes ")")) xs ys
       → BeginsSum k (plus_of a b) ts ys
 
--- A text of at most 65,536 bytes that is a module whose one function, of level 1, has this sum as its body, and nothing else but white space.
+-- A text of at most 65,536 bytes that spells a module whose one function has this sum as its body. The function has level 1. Only white space comes
+-- after the module: no comment, no annotation and no other definition stands anywhere.
 pub record IsSumText (text : List ℕ) (e : Sum) : Type 0 where
   pub short : length text ≤ 65536
   pub from_attributes : List ℕ

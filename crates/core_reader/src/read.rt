@@ -15,7 +15,7 @@ use std::alloc::Global;
 // The most bytes of a text.
 const LONGEST_TEXT: usize = 65_536;
 
-// The most levels of a sum: no part has a level above 1,000, and the function around the sum has level 1.
+// The most levels of a sum: no part has a level above 1,000, and the sum itself has level 2.
 const MOST_LEVELS: u32 = 999;
 
 // What is left after `module NAME ['main'/0]`.
@@ -130,10 +130,10 @@ fn read(alloc: Global, text: &[u8]) -> Result<Sum, SumRefusal>
     }
 }
 
-/// The sum that a text spells.
+/// The sum that a text spells, by the rules at the head of this crate.
 ///
-/// The answer is `NotYet` only if the text spells none, and `Memory` if memory ran out before that
-/// was known.
+/// `NotYet` is answered only where the text spells no sum, and there it is the answer unless memory
+/// runs out first. `Memory` is answered where memory runs out.
 pub fn read_sum(alloc: Global, text: &[u8]) -> Result<Sum, SumRefusal>
     // What is read is what the text spells.
     ensures sum { IfOk result (λ e. IsSumText text.now e) }

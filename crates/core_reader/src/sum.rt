@@ -10,16 +10,16 @@ use std::alloc::AllocError;
 /// The body of a module's one function: integers and their sums.
 #[derive(Debug, Drop)]
 pub enum Sum {
-    /// An integer.
+    /// An integer. One that was read is from -999,999 to 999,999.
     Int(i64),
     /// The sum of two parts, the left one first.
     Plus(Boxed<Sum>, Boxed<Sum>),
 }
 
-/// Why a text is not read.
+/// Why a text was not read.
 #[derive(Clone, Copy, Debug, PartialEq, Eq)]
 pub enum SumRefusal {
-    /// The text isn't the text of a sum.
+    /// The text spells no sum of the form that is read yet.
     NotYet,
     /// Memory ran out.
     Memory,
@@ -36,8 +36,8 @@ impl From<AllocError> for SumRefusal {
     }
 }
 
-/// What a sum of integers from -999,999 to 999,999 comes to is at most 999,999 times as far from 0 as
-/// it has integers.
+/// A sum of so many integers, each from -999,999 to 999,999, comes to at most 999,999 times that many,
+/// and to no less than the same below 0.
 pub fn value_of_small_integers()
     ensures { (e : ASum) → HasSmallIntegers e → IsWithin (999999 * count_of e) (value e) }
 {}
