@@ -1,5 +1,5 @@
 -- The regions of memory: the code, which is only read, and the stack.
-use Rattle.std.specs.Prelude.{ℕ, ◌+◌, ◌-◌, ◌*◌, ◌/◌, ◌%◌, List, Bool, ◌&&◌, Option, Some, None, length, take, drop, slice_get, slice_set, nat_eq, nat_le, nat_lt, if◌then◌else◌}
+use Rattle.std.specs.Prelude.{ℕ, ◌+◌, ◌-◌, ◌*◌, ◌/◌, ◌%◌, List, ◌&&◌, Option, Some, None, length, take, drop, slice_get, slice_set, nat_eq, nat_le, if◌then◌else◌}
 use Rattle.std.specs.Int.{w64, from_le_bytes}
 use Rattle.amd64_machine.specs.declared.layout.TheConstants.{CODE_BEGIN, STACK_BEGIN}
 
