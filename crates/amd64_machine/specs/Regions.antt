@@ -13,7 +13,7 @@ abbrev pub offset_in : ℕ → ℕ → ℕ → Option ℕ
 offset_in begin bytes address =
     if nat_le begin address && nat_le (address + 8) (begin + bytes) then Some (address - begin) else None
 
--- of two regions that don't overlap
+-- the place in the first of the two regions that has one
 abbrev pub either : Option ℕ → Option ℕ → Option Spot
 either (Some byte) stack = Some (InCode byte)
 either None (Some byte) = Some (InStack (byte / 8))
