@@ -1,8 +1,9 @@
 -- Runs of the machine, one step after another.
-use Rattle.std.proofs.Common.{◌≡◌, ◌≢◌, ℕ, zero, suc, ◌+◌, ◌-◌, ◌<◌, List, Option, Some, None, refl, sym, ap, ◌∙◌, arith}
+use Rattle.std.proofs.Common.{◌≡◌, ℕ, zero, suc, ◌+◌, ◌-◌, ◌<◌, List, Some, refl, ap, ◌∙◌, arith}
 use Rattle.amd64_machine.specs.declared.machine.End.{End}
+use Rattle.amd64_machine.specs.declared.machine.End.TheVariants as ends
 use Rattle.amd64_machine.specs.Machine.{State, On, Over, Returned, MachineFault, machine_step, machine_run}
-use Rattle.amd64_machine.specs.Result.{end_of}
+use Rattle.amd64_machine.specs.Result.{end_of, answer_of, HasReturned}
 
 run_over : (code : List ℕ) (n : ℕ) (s : State) (e : End) → end_of s ≡ Some e → machine_run code n s ≡ s
 run_over code zero s e h = refl
@@ -22,3 +23,9 @@ run_ended code n k s e h over = run_rest code n k s h ∙ run_over code (n - (k 
 -- nothing is left
 pub run_none : (code : List ℕ) (n k : ℕ) (s : State) → n ≡ k → machine_run code (n - k) s ≡ s
 run_none code n k s h = let e : n - k ≡ 0 = omega arith in ap (λ m. machine_run code m s) e
+
+-- a run that answers so has a value
+pub returned_has_value : (s : State) → answer_of s ≡ ends.Returned → HasReturned s
+returned_has_value (On at registers flags stack) e = absurd (cc)
+returned_has_value (Over (Returned value)) e = (value, refl)
+returned_has_value (Over (MachineFault at)) e = absurd (cc)

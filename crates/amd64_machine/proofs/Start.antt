@@ -1,8 +1,7 @@
 -- The machine at its start.
-use Rattle.std.proofs.Common.{◌≡◌, ℕ, zero, suc, List, [], ◌∷◌, refl, get_or, replicate}
-use Rattle.std.specs.Prelude.{slice_index}
+use Rattle.std.proofs.Common.{◌≡◌, ℕ, zero, suc, refl, get_or, replicate}
 use Rattle.std.proofs.Math.Path.{fun_ext}
-use Rattle.amd64_machine.specs.Machine.{Registers, zeros}
+use Rattle.amd64_machine.specs.Machine.{zeros}
 use Rattle.amd64_machine.specs.Seen.{registers_seen}
 
 get_zeros : (n q : ℕ) → let none : ℕ = 0 in get_or (replicate n none) q 0 ≡ none

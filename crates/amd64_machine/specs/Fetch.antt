@@ -1,5 +1,5 @@
 -- Which instruction stands at an address of the code, which stands in memory from CODE_BEGIN on.
-use Rattle.std.specs.Prelude.{◌≡◌, ℕ, ◌+◌, ◌-◌, ◌<◌, ◌≤◌, List, ◌++◌, ◌&&◌, Result, Ok, Err, length, drop, nat_le, nat_lt, if◌then◌else◌}
+use Rattle.std.specs.Prelude.{◌≡◌, ℕ, ◌+◌, ◌-◌, ◌≤◌, List, ◌++◌, ◌&&◌, Result, Ok, Err, length, drop, nat_le, nat_lt, if◌then◌else◌}
 use Rattle.amd64_form.specs.declared.inst.Inst.{Inst}
 use Rattle.amd64_form.specs.declared.form.TheConstants.{FORMS}
 use Rattle.amd64_form.specs.declared.decoding.DecodeFault.{DecodeFault}

@@ -1,5 +1,5 @@
 -- How an integer stands in a word: its low four bits are 15, and the others are the integer in two's complement.
-use Rattle.std.specs.Prelude.{◌≡◌, ℕ, zero, ◌+◌, ◌-◌, ◌*◌, ◌/◌, ◌%◌, ◌^◌, ◌<◌, ℤ, pos, negsuc, Bool, Option, Some, None, nat_eq, nat_lt, if◌then◌else◌}
+use Rattle.std.specs.Prelude.{◌≡◌, ℕ, ◌+◌, ◌-◌, ◌*◌, ◌/◌, ◌%◌, ◌^◌, ◌<◌, ℤ, pos, negsuc, Option, Some, None, nat_eq, nat_lt, if◌then◌else◌}
 
 -- -2^59 to 2^59 - 1
 abbrev pub IsInteger : ℤ → Type 0

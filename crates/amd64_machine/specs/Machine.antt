@@ -1,9 +1,8 @@
 -- The machine, after the AMD64 Architecture Programmer's Manual, Volume 3: one instruction, and a run.
-use Rattle.std.specs.Prelude.{◌≡◌, ℕ, zero, suc, ◌+◌, ◌-◌, ◌*◌, ◌%◌, ◌^◌, ℤ, pos, negsuc, ◌+ℤ◌, int_le, int_lt, List, [], Bool, true, false, not, ◌&&◌, Option, Some, None, length, replicate, nat_eq, nat_le, if◌then◌else◌}
+use Rattle.std.specs.Prelude.{ℕ, zero, suc, ◌+◌, ◌-◌, ◌*◌, ◌%◌, ◌^◌, ℤ, pos, negsuc, ◌+ℤ◌, int_le, int_lt, List, Bool, not, ◌&&◌, Option, Some, None, replicate, nat_eq, nat_le, if◌then◌else◌}
 use Rattle.std.specs.Int.{w64, cast_unsigned, cast_signed}
 use Rattle.amd64_form.specs.declared.reg.Reg.{Reg}
 use Rattle.amd64_form.specs.declared.reg.Reg.TheVariants.{Rax, Rsp, Rdi, R15}
-use Rattle.amd64_form.specs.declared.inst.Inst.{Inst}
 use Rattle.amd64_form.specs.declared.inst.Inst.TheVariants.{Move, LoadConstant, Add, AddConstant, Push, Pop, Syscall}
 use Rattle.amd64_form.specs.Reg.{number}
 use Rattle.amd64_machine.specs.declared.layout.TheConstants.{CODE_BEGIN, STACK_BEGIN, STACK_WORDS, HEAP_END}

@@ -1,5 +1,5 @@
 -- The regions of memory: the code, which is only read, and the stack.
-use Rattle.std.specs.Prelude.{ℕ, ◌+◌, ◌-◌, ◌*◌, ◌/◌, ◌%◌, List, Bool, ◌&&◌, Option, Some, None, length, take, drop, slice_get, slice_set, nat_eq, nat_le, nat_lt, if◌then◌else◌}
+use Rattle.std.specs.Prelude.{ℕ, ◌+◌, ◌-◌, ◌*◌, ◌/◌, ◌%◌, List, ◌&&◌, Option, Some, None, length, take, drop, slice_get, slice_set, nat_eq, nat_le, if◌then◌else◌}
 use Rattle.std.specs.Int.{w64, from_le_bytes}
 use Rattle.amd64_machine.specs.declared.layout.TheConstants.{CODE_BEGIN, STACK_BEGIN}
 
@@ -13,7 +13,7 @@ abbrev pub offset_in : ℕ → ℕ → ℕ → Option ℕ
 offset_in begin bytes address =
     if nat_le begin address && nat_le (address + 8) (begin + bytes) then Some (address - begin) else None
 
--- of two regions that don't overlap
+-- the place in the first of the two regions that has one
 abbrev pub either : Option ℕ → Option ℕ → Option Spot
 either (Some byte) stack = Some (InCode byte)
 either None (Some byte) = Some (InStack (byte / 8))

@@ -23,7 +23,8 @@ pub enum End {
     Returned,
     /// All instructions that were allowed ran, and the run isn't over: it can go on.
     StepsSpent,
-    /// There is no next state at this address: no instruction stands there, or what it does isn't allowed.
+    /// There is no next state at the address `at`: no instruction stands there, or what it does isn't allowed, as
+    /// an access outside the regions, or a service with another number than 0 or with a word that is no integer.
     MachineFault { at: u64 },
 }
 
@@ -84,6 +85,10 @@ fn with_stack(alloc: Global, code: Vec<u8>, words: usize) -> Result<Machine, Mem
 impl Machine {
     /// A machine at the first byte of the code. The stack is empty: rsp is its end. r15 is the end of the heap,
     /// which has no words. All other registers and words are 0, and the flags unknown.
+    ///
+    /// # Errors
+    ///
+    /// `Memory` where there was none for the stack of 8 MiB.
     pub fn start(alloc: Global, code: Vec<u8>) -> Result<Machine, Memory>
         ensures code { IfOk result (λ m. code_of m ≡ code.items) }
         ensures state { IfOk result (λ m. state_of m ≡ start) }
@@ -92,7 +97,7 @@ impl Machine {
     }
 
     /// Does one instruction. `None` where the run goes on; the end where this step ended it, or it had ended before,
-    /// and then nothing changes. `StepsSpent` never comes. No instruction writes to `out` yet.
+    /// and then nothing changes. `StepsSpent` never comes. It takes no memory, and no instruction writes to `out` yet.
     pub fn step<K: Sink>(&mut self, out: &mut K) -> Option<End>
         ensures code { code_of self.new ≡ code_of self.old }
         ensures state { state_of self.new ≡ machine_step (code_of self.old) (state_of self.old) }
@@ -125,7 +130,8 @@ impl Machine {
         self.end().unwrap_or(End::StepsSpent)
     }
 
-    /// Writes the line of the value that the run returned: `value`, a space, the integer in decimal and a newline.
+    /// Writes the line of the value that the run returned, which it must have: `value`, a space, the integer in
+    /// decimal and a newline.
     ///
     /// # Errors
     ///

@@ -1,12 +1,12 @@
 // What each instruction does.
-ghost use Rattle.std.specs.Prelude.{◌≡◌, Option, None, Some};
+ghost use Rattle.std.specs.Prelude.{◌≡◌, Some};
 ghost use Rattle.amd64_machine.specs.Fetch.{Here};
-ghost use Rattle.amd64_machine.specs.Integer.{integer_at};
 ghost use Rattle.amd64_machine.specs.Machine.{On, act, with_sum, word_in, served, pushed, popped, below};
 ghost use Rattle.amd64_machine.specs.Machine.{put as with_word};
 ghost use Rattle.amd64_machine.specs.Regions.{stack_with, word_at};
 ghost use Rattle.amd64_machine.specs.Seen.{seen, registers_seen};
 
+use super::integer::integer;
 use super::regions::{read, write};
 use super::state::{Core, Ended, Flags, get, put};
 use amd64_form::{Inst, Reg};
@@ -57,17 +57,6 @@ fn pop(core: &mut Core, code: &[u8], r: Reg, next: u64) -> Option<Ended>
     };
     put(&mut core.registers, Reg::Rsp, top.wrapping_add(8));
     load(core, r, word, next)
-}
-
-// The integer for which a word stands.
-fn integer(word: u64) -> Option<i64>
-    ensures { result ≡ integer_at word }
-{
-    if word % 16 == 15 {
-        Some(word.cast_signed() >> 4)
-    } else {
-        None
-    }
 }
 
 // Calls the service whose number is in rax.

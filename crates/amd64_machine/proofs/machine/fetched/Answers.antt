@@ -1,6 +1,6 @@
-use Rattle.std.proofs.Common.{◌≡◌, ◌∙◌, ap, sym, arith}
+use Rattle.std.proofs.Common.{◌∙◌, ap, sym, arith}
 use Rattle.amd64_machine.specs.Fetch.{here}
-use Rattle.amd64_machine.proofs.Fetching.{Decodes, decoded_is_fetched, fetch_below, fetch_behind}
+use Rattle.amd64_machine.proofs.Fetching.{decoded_is_fetched, fetch_below, fetch_behind}
 use Rattle.amd64_machine.proofs.machine.fetched.Goals as goal
 
 pub returns-then-at-lt-CODE_BEGIN : goal.returns-then-at-lt-CODE_BEGIN
