@@ -1,0 +1,26 @@
+-- Words that are compared with the two of the command.
+use Rattle.std.proofs.Common.{◌≡◌, ℕ, ◌<◌, ◌≤◌, List, [], ◌∷◌, length, get_or, sym, ap, ◌∙◌, arith}
+use Rattle.std.specs.Prelude.{◌↔◌, Bool, true, map}
+use Rattle.std.specs.Str.{bytes_eq}
+use Rattle.std.proofs.lemmas.Slice.Eq.{bytes_eq-Decides}
+
+-- a list of two elements
+pub two : {A : Type 0} (xs : List A) (x y : A) → 2 ≤ length xs → length xs < 3 → x ≡ get_or xs 0 x → y ≡ get_or xs 1 y → xs ≡ x ∷ y ∷ []
+two [] x y ge lt p q = absurd (omega arith)
+two (a ∷ []) x y ge lt p q = absurd (omega arith)
+two (a ∷ b ∷ []) x y ge lt p q = ap (λ z. z ∷ b ∷ []) (sym p) ∙ ap (λ z. x ∷ z ∷ []) (sym q)
+two (a ∷ b ∷ d ∷ xs) x y ge lt p q = absurd (omega arith)
+
+-- the second word decides, where the first is right
+pub second_decides : {A : Type 0} (bytes_of : A → List ℕ) (words : List A) (x y : A) (mode call p q : List ℕ) (first second : Bool)
+    → words ≡ x ∷ y ∷ [] → p ≡ bytes_of x → q ≡ bytes_of y → first ≡ bytes_eq p mode → second ≡ bytes_eq q call → first ≡ true
+    → (second ≡ true) ↔ (map bytes_of words ≡ mode ∷ call ∷ [])
+second_decides bytes_of words x y mode call p q first second is px qy f s right =
+    let mode_is : p ≡ mode = (bytes_eq-Decides p mode).0 (sym f ∙ right) in
+    let both : map bytes_of words ≡ p ∷ q ∷ [] = ap (map bytes_of) is ∙ ap (λ a. a ∷ bytes_of y ∷ []) (sym px) ∙ ap (λ b. p ∷ b ∷ []) (sym qy) in (
+      λ good. both ∙ ap (λ a. a ∷ q ∷ []) mode_is ∙ ap (λ b. mode ∷ b ∷ []) ((bytes_eq-Decides q call).0 (sym s ∙ good)),
+      λ e. s ∙ (bytes_eq-Decides q call).1 (second_of (sym both ∙ e)),
+    )
+  where
+    second_of : {a b d e : List ℕ} → a ∷ b ∷ [] ≡ d ∷ e ∷ [] → b ≡ e
+    second_of h = ap (λ (l : List (List ℕ)). get_or l 1 []) h

@@ -1,0 +1,9 @@
+-- Lemmas on the definitions.
+pub mod Command
+pub mod Emission
+pub mod Levels
+pub mod Meaning
+pub mod Outcomes
+pub mod Running
+pub mod Simulation
+pub mod Slots

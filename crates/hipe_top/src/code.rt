@@ -1,0 +1,102 @@
+// The code of a sum.
+ghost use Rattle.std.specs.Prelude.{◌≡◌, ◌++◌, ◌≤◌, IfOk, OnOk};
+ghost use Rattle.amd64_form.specs.Encoding.{encoding};
+ghost use Rattle.amd64_machine.specs.Integer.{IsInteger, word_of};
+ghost use Rattle.core_reader.specs.Sums.{HasSmallIntegers, count_of, value};
+ghost use Rattle.hipe_top.specs.Code.{addition, evaluation, ending, bytes_of, code_for, EndsWith};
+
+use super::limits::MOST_INTEGERS;
+use amd64_form::{Inst, Reg, encode};
+use core_reader::Sum;
+use hipe_edge::Memory;
+use std::alloc::Global;
+
+// The word that stands for an integer.
+fn word(n: i64) -> u64
+    requires { IsInteger n }
+    ensures { result ≡ word_of n }
+{
+    (16 * n + 15).cast_unsigned()
+}
+
+// Appends one instruction.
+fn put(inst: Inst, code: &mut Vec<u8>) -> Result<(), Memory>
+    ensures { OnOk result (code.new.items ≡ code.old.items ++ encoding inst) }
+{
+    code.extend_from_slice(encode(inst).as_slice())
+}
+
+// Appends the instructions that add the word on top of the stack to rax.
+fn add(code: &mut Vec<u8>) -> Result<(), Memory>
+    ensures { OnOk result (code.new.items ≡ code.old.items ++ bytes_of addition) }
+{
+    put(Inst::Pop(Reg::Rcx), code)?;
+    let sum = Inst::Add {
+        to: Reg::Rax,
+        from: Reg::Rcx,
+    };
+    put(sum, code)?;
+    let tag = Inst::AddConstant {
+        to: Reg::Rax,
+        value: -15,
+    };
+    put(tag, code)
+}
+
+// Appends the instructions that leave the word of a sum's value in rax.
+#[tactic(auto, using(crate::proofs::Levels::levels))]
+fn evaluate(e: &Sum, code: &mut Vec<u8>) -> Result<(), Memory>
+    requires { HasSmallIntegers e.now }
+    ensures { OnOk result (code.new.items ≡ code.old.items ++ bytes_of (evaluation e.now)) }
+{
+    match e {
+        Sum::Int(n) => {
+            let load = Inst::LoadConstant {
+                to: Reg::Rax,
+                value: word(*n),
+            };
+            put(load, code)
+        }
+        Sum::Plus(a, b) => {
+            evaluate(a.get(), code)?;
+            put(Inst::Push(Reg::Rax), code)?;
+            evaluate(b.get(), code)?;
+            add(code)
+        }
+    }
+}
+
+// Appends the instructions that end the run with the value in rax.
+fn end(code: &mut Vec<u8>) -> Result<(), Memory>
+    ensures { OnOk result (code.new.items ≡ code.old.items ++ bytes_of ending) }
+{
+    let value = Inst::Move {
+        to: Reg::Rdi,
+        from: Reg::Rax,
+    };
+    put(value, code)?;
+    let service = Inst::LoadConstant {
+        to: Reg::Rax,
+        value: 0,
+    };
+    put(service, code)?;
+    put(Inst::Syscall, code)
+}
+
+/// The code of a sum, which ends by service 0 with the sum's value: the values that wait for their other part stand
+/// on the stack, and the last value is in rax.
+///
+/// # Errors
+///
+/// `Memory` where there was no memory for the code.
+pub fn code_of(alloc: Global, e: &Sum) -> Result<Vec<u8>, Memory>
+    requires { HasSmallIntegers e.now }
+    ensures code { IfOk result (λ code. code.items ≡ code_for e.now) }
+    // What the code means: the machine ends with the plain sum.
+    ensures meaning { IfOk result (λ code. count_of e.now ≤ MOST_INTEGERS → EndsWith code.items (value e.now)) }
+{
+    let mut code = Vec::new(alloc);
+    evaluate(e, &mut code)?;
+    end(&mut code)?;
+    Ok(code)
+}

@@ -1,0 +1,57 @@
+// The compiler's program.
+//
+// It takes the words `run` and `'main'()` and, on standard input, the text of a module whose function `'main'/0`
+// gives a sum of integers. It makes AMD64 code of the sum, runs the code on the machine of `amd64_machine`, and writes
+// the value.
+//
+// Promised here, on the contract of `hipe_alone`, for any source and any sinks: status 0 exactly where the words and
+// the text are good and no read, write or allocation failed, and then the line of the plain sum stands on out, which is
+// the integer with which the machine's own definition ends on the bytes of `code_of`; and for each other status what
+// stands on the source and the sinks. `main` only lends it standard input, output and error.
+//
+// Files:
+//   limits.rt   the limits, with their reasons
+//   words.rt    the words
+//   code.rt     `code_of`: the code of a sum, and its theorem
+//   run.rt      from the source to the line on out
+//   stop.rt     why the program stops without a value: status and line
+//   top.rt      `hipe_alone`
+//   tests.rt    the program in memory
+#![tactic(auto)]
+
+mod code;
+mod limits;
+mod run;
+mod stop;
+#[cfg(test)]
+mod tests;
+mod top;
+mod words;
+
+use hipe_edge::{StdSink, StdSource};
+use std::env;
+use std::io::ErrorKind;
+use std::process::ExitCode;
+use std::rt::Env;
+use stop::{Stop, report};
+use top::hipe_alone;
+
+// The program's words, without its name. One that is no UTF-8 is no word of a command.
+fn program_words<R: Env + AllocGlobal>(rt: &R) -> Result<Vec<String>, Stop> {
+    match env::args(rt) {
+        Ok(args) => Ok(args.skip(1).collect(rt.alloc())?),
+        Err(error) if error.kind() == ErrorKind::OutOfMemory => Err(Stop::Memory),
+        Err(_) => Err(Stop::Words),
+    }
+}
+
+fn main(rt: HostRuntime) -> ExitCode {
+    let mut source = StdSource::new(rt.stdin());
+    let mut out = StdSink::new(rt.stdout());
+    let mut err = StdSink::new(rt.stderr());
+    let status = match program_words(&rt) {
+        Ok(words) => hipe_alone(rt.alloc(), &words, &mut source, &mut out, &mut err),
+        Err(stop) => report(stop, &mut err),
+    };
+    ExitCode::from(status)
+}

@@ -1,0 +1,159 @@
+// The whole program in memory: worked texts, refusals, and calls that fail.
+use super::code::code_of;
+use super::top::hipe_alone;
+use core_reader::Sum;
+use hipe_edge::{CountSink, MemSink, MemSource, SureSource};
+use std::alloc::{AllocError, Global};
+use std::process::Abort;
+use std::test::Fail;
+
+const BEFORE: &str = "module 'm' ['main'/0] attributes [] 'main'/0 = fun () -> ";
+
+// What a call answered and wrote.
+#[derive(Drop)]
+struct Seen {
+    status: u8,
+    out: Vec<u8>,
+    err: Vec<u8>,
+}
+
+// The words of a command.
+fn command(alloc: Global, words: &[&str]) -> Result<Vec<String>, AllocError> {
+    let mut all = Vec::new(alloc);
+    for word in words {
+        all.push(String::from_str(alloc, word)?)?;
+    }
+    Ok(all)
+}
+
+// Calls the program on a text, with the numbers of the calls that fail on the source, on out and on err.
+fn call(alloc: Global, words: &[&str], text: &str, fails: [&[u64]; 3]) -> Result<Seen, AllocError> {
+    let words = command(alloc, words)?;
+    let bytes = Vec::from_slice(alloc, text.as_bytes())?;
+    let mut source = MemSource::new(bytes, Vec::from_slice(alloc, fails[0])?);
+    let mut out = MemSink::new(alloc, 100, Vec::from_slice(alloc, fails[1])?)?;
+    let mut err = MemSink::new(alloc, 100, Vec::from_slice(alloc, fails[2])?)?;
+    let status = hipe_alone(alloc, &words, &mut source, &mut out, &mut err);
+    Ok(Seen {
+        status,
+        out: Vec::from_slice(alloc, out.bytes())?,
+        err: Vec::from_slice(alloc, err.bytes())?,
+    })
+}
+
+fn assert_seen(rt: &impl Abort, seen: &Seen, status: u8, out: &str, err: &str) {
+    assert_eq!(rt; seen.status, status);
+    assert_eq!(rt; seen.out.as_slice(), out.as_bytes());
+    assert_eq!(rt; seen.err.as_slice(), err.as_bytes());
+}
+
+#[test]
+fn bodies_give_their_sums(rt: HostRuntime) -> Result<(), Fail> {
+    let alloc = rt.alloc();
+    let not_yet = "hipe: not_yet 1:1\n";
+    for (body, status, out, err) in [
+        ("42", 0, "value 42\n", ""),
+        ("call 'erlang':'+'(40,2)", 0, "value 42\n", ""),
+        (
+            "call 'erlang':'+'(-5,call 'erlang':'+'(2,3))",
+            0,
+            "value 0\n",
+            "",
+        ),
+        (
+            "call 'erlang':'+'(call 'erlang':'+'(1,2),call 'erlang':'+'(3,-999999))",
+            0,
+            "value -999993\n",
+            "",
+        ),
+        ("-999999", 0, "value -999999\n", ""),
+        ("+7", 0, "value 7\n", ""),
+        ("1000000", 3, "", not_yet),
+        ("call 'erlang':'-'(40,2)", 3, "", not_yet),
+        ("", 3, "", not_yet),
+    ] {
+        let text = format!(in alloc; "{BEFORE}{body} end")?;
+        let seen = call(alloc, &["run", "'main'()"], text.as_str(), [&[], &[], &[]])?;
+        assert_seen(&rt, &seen, status, out, err);
+    }
+    Ok(())
+}
+
+#[test]
+fn words_and_inputs_are_refused(rt: HostRuntime) -> Result<(), Fail> {
+    let alloc = rt.alloc();
+    for words in [
+        ["run"].as_slice(),
+        &["run", "'main'()", "x"],
+        &["check", "'main'()"],
+        &["run", "main()"],
+        &[],
+    ] {
+        let seen = call(alloc, words, "", [&[], &[], &[]])?;
+        assert_seen(&rt, &seen, 2, "", "hipe: words\n");
+    }
+    for (spaces, err) in [
+        (65_536, "hipe: not_yet 1:1\n"),
+        (65_537, "hipe: too_long\n"),
+    ] {
+        let words = command(alloc, &["run", "'main'()"])?;
+        let mut source = SureSource::new(vec![in alloc; b' '; spaces]?);
+        let mut out = CountSink::new();
+        let mut line = MemSink::new(alloc, 100, Vec::new(alloc))?;
+        assert_eq!(rt;
+            hipe_alone(alloc, &words, &mut source, &mut out, &mut line),
+            3
+        );
+        assert_eq!(rt; out.count(), 0);
+        assert_eq!(rt; line.bytes(), err.as_bytes());
+    }
+    Ok(())
+}
+
+#[test]
+fn calls_that_fail_are_told(rt: HostRuntime) -> Result<(), Fail> {
+    let alloc = rt.alloc();
+    let none: &[u64] = &[];
+    let (good, bad) = ("42 end", "43");
+    for (body, source, out, err, status, written, line) in [
+        (
+            good,
+            [1].as_slice(),
+            none,
+            none,
+            6,
+            "",
+            "hipe: read_fault\n",
+        ),
+        (good, &[2], none, none, 6, "", "hipe: read_fault\n"),
+        (good, none, &[1], none, 7, "", "hipe: write_fault\n"),
+        (good, none, &[1], &[1], 7, "", ""),
+        (good, none, &[2], &[1], 0, "value 42\n", ""),
+        (good, &[1], none, &[1], 7, "", ""),
+        (bad, none, none, &[1], 7, "", ""),
+        (bad, none, &[1], &[2], 3, "", "hipe: not_yet 1:1\n"),
+        (good, none, none, none, 0, "value 42\n", ""),
+    ] {
+        let text = format!(in alloc; "{BEFORE}{body}")?;
+        let seen = call(
+            alloc,
+            &["run", "'main'()"],
+            text.as_str(),
+            [source, out, err],
+        )?;
+        assert_seen(&rt, &seen, status, written, line);
+    }
+    Ok(())
+}
+
+// mov rax, 687; mov rdi, rax; mov rax, 0; syscall
+#[test]
+#[tactic(auto, using(crate::proofs::Levels::levels))]
+fn an_integer_has_this_code(rt: HostRuntime) -> Result<(), Fail> {
+    let code = code_of(rt.alloc(), &Sum::Int(42))?;
+    assert_eq!(rt;
+        code.as_slice(),
+        b"\x48\xb8\xaf\x02\0\0\0\0\0\0\x48\x89\xc7\x48\xb8\0\0\0\0\0\0\0\0\x0f\x05".as_slice()
+    );
+    Ok(())
+}

@@ -1,0 +1,65 @@
+// The program as one call, over any source and any sinks.
+ghost use Rattle.std.specs.Prelude.{◌≡◌, IfSome, map};
+ghost use Rattle.std.specs.String.{string_bytes};
+ghost use Rattle.hipe_top.specs.Outcome.{EndedByItself, Answered, RanOutOfMemory, ReadFailed, WriteFailed, Accepts, stream};
+
+use super::run::run_text;
+use super::stop::{Stop, report};
+use super::words::is_run;
+use hipe_edge::{Sink, Source};
+use std::alloc::Global;
+
+/// Does what the words say with the source's text, and answers the exit status. It takes no lock and always returns.
+///
+/// `run` and the call `'main'()` are the only words. They read the text of a module whose function `'main'/0` gives a
+/// sum of integers, make AMD64 code of it, run the code on the machine, and write `value`, a space, the sum and a
+/// newline on out. Each other end writes nothing on out but a front of that line, and a line of its own on err.
+///
+/// # Statuses
+///
+/// - 0: the line was written.
+/// - 2: the words aren't these.
+/// - 3: the input is longer than a text may be, or isn't the text of a sum.
+/// - 6: a read failed.
+/// - 7: a write failed.
+/// - 8: there was no memory.
+pub fn hipe_alone<S: Source, O: Sink, E: Sink>(
+    alloc: Global,
+    words: &[String],
+    source: &mut S,
+    out: &mut O,
+    err: &mut E,
+) -> u8
+    // Where nothing failed: the answer that the definitions give.
+    ensures answered { EndedByItself result → Answered (map string_bytes words.now)
+        (stream (S.left source.old) (S.left source.new) (S.faults source.old) (S.faults source.new))
+        (stream (O.written out.old) (O.written out.new) (O.faults out.old) (O.faults out.new))
+        (stream (E.written err.old) (E.written err.new) (E.faults err.old) (E.faults err.new)) result }
+
+    ensures out_of_memory { result ≡ 8 → RanOutOfMemory (map string_bytes words.now)
+        (stream (S.left source.old) (S.left source.new) (S.faults source.old) (S.faults source.new))
+        (stream (O.written out.old) (O.written out.new) (O.faults out.old) (O.faults out.new))
+        (stream (E.written err.old) (E.written err.new) (E.faults err.old) (E.faults err.new)) }
+
+    ensures read_failed { result ≡ 6 → ReadFailed (map string_bytes words.now)
+        (stream (S.left source.old) (S.left source.new) (S.faults source.old) (S.faults source.new))
+        (stream (O.written out.old) (O.written out.new) (O.faults out.old) (O.faults out.new))
+        (stream (E.written err.old) (E.written err.new) (E.faults err.old) (E.faults err.new)) }
+
+    ensures write_failed { result ≡ 7 → WriteFailed (map string_bytes words.now)
+        (stream (S.left source.old) (S.left source.new) (S.faults source.old) (S.faults source.new))
+        (stream (O.written out.old) (O.written out.new) (O.faults out.old) (O.faults out.new))
+        (stream (E.written err.old) (E.written err.new) (E.faults err.old) (E.faults err.new)) }
+
+    // Which texts are taken.
+    ensures accepts { EndedByItself result →
+        IfSome (S.left source.old) (λ bytes. Accepts (map string_bytes words.now) bytes result) }
+{
+    if !is_run(words) {
+        return report(Stop::Words, err);
+    }
+    match run_text(alloc, source, out) {
+        Ok(()) => 0,
+        Err(stop) => report(stop, err),
+    }
+}
