@@ -2,7 +2,7 @@
 use Rattle.std.specs.Prelude.{◌≡◌, ℕ, ◌<◌, List, map, length, slice_index, slice_index_or, IsTrue, ◌↔◌, nat_eq}
 use Rattle.std.specs.List.{All, AllZip, Contains, IsDistinct}
 use Rattle.std.specs.List.Sorted.{IsStrictlyIncreasing}
-use Rattle.lattice_laws.specs.Lattices.{LatticeMeaning}
+use Rattle.lattice_laws.specs.Lattices.{LatticeMeaning, IsLattice}
 
 -- a system: how many nodes and cells it has, the cells that a node needs and gives, the nodes that need a cell,
 -- the cells that start with a value, and what a node makes of the values of its needs
@@ -25,6 +25,8 @@ IsOneForEach is_value cells values = (length values ≡ length cells) × All is_
 
 -- the laws of a system
 pub record IsSystem {V : Type 0} (is_value : V → Type 0) (l : LatticeMeaning V) (s : SystemMeaning V) : Type 0 where
+  -- what the cells hold are values of a lattice
+  pub lattice : IsLattice is_value l
   -- numbers are in range, and each node has a first need
   pub needs_in_range : (node : ℕ) → node < s.nodes → All (λ cell. cell < s.cells) (s.needs node)
   pub gives_in_range : (node : ℕ) → node < s.nodes → All (λ cell. cell < s.cells) (s.gives node)
