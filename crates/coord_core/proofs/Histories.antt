@@ -116,7 +116,7 @@ module _ {V : Type 0} (is_value : V → Type 0) (l : LatticeMeaning V) (s : Syst
   pub finished_parts : (st : State V) → IsTrue (is_finished st) → (st.queue ≡ []) × (st.out ≡ [])
   finished_parts st h = let p = and_parts (length st.queue == 0) (length st.out == 0) h in (none_of st.queue p.0, none_of st.out p.1)
 
-  stable : (st : State V) (n : ℕ) → st.queue ≡ [] → st.out ≡ [] → sound.IsCared is_value l s laws sys st n → AllByRecursion (joins.IsWithin is_value l laws st.table) (outputs_on l s st.table n)
+  stable : (st : State V) (n : ℕ) → st.queue ≡ [] → st.out ≡ [] → sound.IsPendingOrStable is_value l s laws sys st n → AllByRecursion (joins.IsWithin is_value l laws st.table) (outputs_on l s st.table n)
   stable st n q o (inl h) = absurd (true≢false (sym h ∙ ap (list_any (nat_eq n)) q))
   stable st n q o (inr (inl h)) = absurd (subst (IsIn h.0) o h.1)
   stable st n q o (inr (inr h)) = h
@@ -142,7 +142,7 @@ module _ {V : Type 0} (is_value : V → Type 0) (l : LatticeMeaning V) (s : Syst
             | inl t ↦
                 joins.within_bottoms is_value l laws st.table w.values (s.gives n) (s.local n (values_of l st.table (s.needs n)))
                 (each_is_bottom _ (sys.local_unreached n (values_of l st.table (s.needs n)) k (sweeps.one_for_each is_value l s laws sys st.table w.values n) (sym (first_value (s.needs n) (sys.has_reached_cell n k)) ∙ laws.antisymmetric _ _ (w.values (reached_cell s n)) laws.bottom_is_value t (laws.bottom_least _ (w.values (reached_cell s n))))))
-            | inr f ↦ stable st n parts.0 parts.1 (w.cared n k (λ e. false≢true (sym f ∙ (ap (λ x. l.at_most x l.bottom) e ∙ laws.reflexive l.bottom laws.bottom_is_value))))
+            | inr f ↦ stable st n parts.0 parts.1 (w.pending_or_stable n k (λ e. false≢true (sym f ∙ (ap (λ x. l.at_most x l.bottom) e ∙ laws.reflexive l.bottom laws.bottom_is_value))))
           ]
 
       solved : IsSolution is_value l s st.table

@@ -82,8 +82,8 @@ module _ {V : Type 0} (is_value : V → Type 0) (l : LatticeMeaning V) (s : Syst
   IsOutWithCurrent st node = (t : TicketView V) × IsIn t st.out × (t.node ≡ node) × (t.snapshot ≡ values_of l st.table (s.needs node))
 
   -- the node waits, or works on the table's values, or has nothing to add
-  abbrev pub IsCared : State V → ℕ → Type 0
-  IsCared st node = (list_any (nat_eq node) st.queue ≡ true) ⊎ (IsOutWithCurrent st node ⊎ AllByRecursion (IsWithin st.table) (outputs_on l s st.table node))
+  abbrev pub IsPendingOrStable : State V → ℕ → Type 0
+  IsPendingOrStable st node = (list_any (nat_eq node) st.queue ≡ true) ⊎ (IsOutWithCurrent st node ⊎ AllByRecursion (IsWithin st.table) (outputs_on l s st.table node))
 
   pub record IsSound (st : State V) : Type 0 where
     pub cells : length st.table ≡ s.cells
@@ -94,7 +94,7 @@ module _ {V : Type 0} (is_value : V → Type 0) (l : LatticeMeaning V) (s : Syst
     pub queue_distinct : IsDistinct nat_eq st.queue
     pub tickets : AllByRecursion (IsTicket st.table st.takes) st.out
     pub numbers : Ascends st.out
-    pub cared : (node : ℕ) → node < s.nodes → value_of l st.table (reached_cell s node) ≢ l.bottom → IsCared st node
+    pub pending_or_stable : (node : ℕ) → node < s.nodes → value_of l st.table (reached_cell s node) ≢ l.bottom → IsPendingOrStable st node
     pub bounded : st.takes + length st.queue ≤ (s.nodes + all_ranks st.table) + give_backs_in st.journal
     pub counted : st.takes ≡ takes_in st.journal
 
@@ -120,7 +120,7 @@ module _ {V : Type 0} (is_value : V → Type 0) (l : LatticeMeaning V) (s : Syst
     queue_distinct = distinct-filter (is_started s) (numbers_below s.nodes) (distinct_numbers s.nodes);
     tickets = tt;
     numbers = tt;
-    cared = λ node h ne. elim (cases_Bool (is_started s node)) [
+    pending_or_stable = λ node h ne. elim (cases_Bool (is_started s node)) [
       | inl t ↦ inl (has-filter (is_started s) node (numbers_below s.nodes) (has_below s.nodes node h) t)
       | inr f ↦ absurd (ne (starts.started_other is_value l laws s.starts (bottoms l s) (reached_cell s node) f ∙ joins.bottoms_read is_value l laws s.cells (reached_cell s node)))
     ];
@@ -142,7 +142,7 @@ module _ {V : Type 0} (is_value : V → Type 0) (l : LatticeMeaning V) (s : Syst
     queue_distinct = distinct-rest st.queue w.queue_distinct;
     tickets = each-append (IsTicket st.table (st.takes + 1)) st.out (given ∷ []) (each_weaker (IsTicket st.table st.takes) (IsTicket st.table (st.takes + 1)) later st.out w.tickets) (new_ticket, tt);
     numbers = ascends-push st.out given w.numbers (each_weaker (IsTicket st.table st.takes) (λ t. t.number < st.takes + 1) (λ t i. less t.number st.takes i.number) st.out w.tickets);
-    cared = λ n k ne. still n (w.cared n k ne);
+    pending_or_stable = λ n k ne. still n (w.pending_or_stable n k ne);
     bounded = one_less (length st.queue) (length (drop 1 st.queue)) st.takes (s.nodes + all_ranks st.table) (give_backs_in st.journal) (give_backs_in (st.journal ++ Take worker node ∷ [])) (length-next st.queue h) w.bounded (give_backs_in-push_take st.journal worker node);
     counted = one_more st.takes (takes_in st.journal) (takes_in (st.journal ++ Take worker node ∷ [])) w.counted (takes_in-push_take st.journal worker node);
   }
@@ -183,7 +183,7 @@ module _ {V : Type 0} (is_value : V → Type 0) (l : LatticeMeaning V) (s : Syst
       first_or_rest n (x ∷ q) e k =
           elim (cases_Bool (nat_eq n x)) [ inl t ↦ inl (sym (eqb-true x node e) ∙ sym (eqb-true n x t)) | inr f ↦ inr (rw f at k) ]
 
-      still : (n : ℕ) → IsCared st n → IsCared (taken l s st worker node) n
+      still : (n : ℕ) → IsPendingOrStable st n → IsPendingOrStable (taken l s st worker node) n
       still n (inl q) =
           elim (first_or_rest n st.queue h q) [
             | inl e ↦ inr (inl (given, in_last given st.out, e, ap (λ m. values_of l st.table (s.needs m)) e))
@@ -216,7 +216,7 @@ module _ {V : Type 0} (is_value : V → Type 0) (l : LatticeMeaning V) (s : Syst
     queue_distinct = queues.queue_after-distinct is_value l s laws sys os st.table st.queue w.queue_distinct;
     tickets = each_filter (IsTicket (joined_all l st.table os) st.takes) (λ u. not (has_number t.number u)) st.out (each_weaker (IsTicket st.table st.takes) (IsTicket (joined_all l st.table os) st.takes) ticket_up st.out w.tickets);
     numbers = ascends-filter (λ u. not (has_number t.number u)) st.out w.numbers;
-    cared = cared_after;
+    pending_or_stable = pending_after;
     bounded = bound (length (queue_after l s st.table st.queue os)) (length st.queue) st.takes s.nodes (all_ranks st.table) (all_ranks (joined_all l st.table os)) (give_backs_in st.journal) (give_backs_in (st.journal ++ Finish t.worker t.number ∷ []))
         (queues.queue_after-ranks is_value l s laws sys os st.table st.queue w.cells w.values fit) w.bounded (give_backs_in-push_finish st.journal t.worker t.number);
     counted = w.counted ∙ sym (takes_in-push_finish st.journal t.worker t.number);
@@ -251,7 +251,7 @@ module _ {V : Type 0} (is_value : V → Type 0) (l : LatticeMeaning V) (s : Syst
       first_value t' [] h = absurd (omega arith)
       first_value t' (c ∷ cs) h = refl
 
-      still : (n : ℕ) → n < s.nodes → values_of l (joined_all l st.table (local_of s t.node t.snapshot)) (s.needs n) ≡ values_of l st.table (s.needs n) → IsCared st n → IsCared (finished l s st t) n
+      still : (n : ℕ) → n < s.nodes → values_of l (joined_all l st.table (local_of s t.node t.snapshot)) (s.needs n) ≡ values_of l st.table (s.needs n) → IsPendingOrStable st n → IsPendingOrStable (finished l s st t) n
       still n h same (inl q) = inl (queues.queue_after-keeps is_value l s laws sys (local_of s t.node t.snapshot) st.table st.queue n q)
       still n h same (inr (inl o)) =
           elim (cases_eq o.0.number t.number) [
@@ -268,11 +268,11 @@ module _ {V : Type 0} (is_value : V → Type 0) (l : LatticeMeaning V) (s : Syst
           inr (inr (subst (λ xs. AllByRecursion (IsWithin (joined_all l st.table (local_of s t.node t.snapshot))) (local_of s n xs)) (sym same)
           (joins.within_up is_value l laws st.table (joined_all l st.table (local_of s t.node t.snapshot)) s.cells w.values v1 up (outputs_on l s st.table n) (sweeps.local_outputs is_value l s laws sys n _ h (sweeps.one_for_each is_value l s laws sys st.table w.values n)) f)))
 
-      cared_after : (n : ℕ) → n < s.nodes → value_of l (joined_all l st.table (local_of s t.node t.snapshot)) (reached_cell s n) ≢ l.bottom → IsCared (finished l s st t) n
-      cared_after n h ne =
+      pending_after : (n : ℕ) → n < s.nodes → value_of l (joined_all l st.table (local_of s t.node t.snapshot)) (reached_cell s n) ≢ l.bottom → IsPendingOrStable (finished l s st t) n
+      pending_after n h ne =
           elim (queues.needs_or_queued is_value l s laws sys (local_of s t.node t.snapshot) st.table st.queue n h w.values fit) [
             | inr q ↦ inl q
-            | inl same ↦ still n h same (w.cared n h (λ b. ne (first_value _ (s.needs n) (sys.has_reached_cell n h) ∙ (ap (λ xs. get_or xs 0 l.bottom) same ∙ (sym (first_value st.table (s.needs n) (sys.has_reached_cell n h)) ∙ b)))))
+            | inl same ↦ still n h same (w.pending_or_stable n h (λ b. ne (first_value _ (s.needs n) (sys.has_reached_cell n h) ∙ (ap (λ xs. get_or xs 0 l.bottom) same ∙ (sym (first_value st.table (s.needs n) (sys.has_reached_cell n h)) ∙ b)))))
           ]
 
       bound : (q' q t n a b g g' : ℕ) → q' + a ≤ q + b → t + q ≤ (n + a) + g → g' ≡ g → t + q' ≤ (n + b) + g'
@@ -289,7 +289,7 @@ module _ {V : Type 0} (is_value : V → Type 0) (l : LatticeMeaning V) (s : Syst
     queue_distinct = queues.with_node-distinct st.queue t.node w.queue_distinct;
     tickets = each_filter (IsTicket st.table st.takes) (λ u. not (has_number t.number u)) st.out w.tickets;
     numbers = ascends-filter (λ u. not (has_number t.number u)) st.out w.numbers;
-    cared = λ n h ne. still n (w.cared n h ne);
+    pending_or_stable = λ n h ne. still n (w.pending_or_stable n h ne);
     bounded = bound (length (with_node st.queue t.node)) (length st.queue) st.takes (s.nodes + all_ranks st.table) (give_backs_in st.journal) (give_backs_in (st.journal ++ GiveBack t.worker t.number ∷ [])) (queues.with_node-length st.queue t.node) w.bounded (give_backs_in-push_give_back st.journal t.worker t.number);
     counted = w.counted ∙ sym (takes_in-push_give_back st.journal t.worker t.number);
   }
@@ -297,7 +297,7 @@ module _ {V : Type 0} (is_value : V → Type 0) (l : LatticeMeaning V) (s : Syst
       ticket : IsTicket st.table st.takes t
       ticket = each_in (IsTicket st.table st.takes) t st.out w.tickets i
 
-      still : (n : ℕ) → IsCared st n → IsCared (given_back st t) n
+      still : (n : ℕ) → IsPendingOrStable st n → IsPendingOrStable (given_back st t) n
       still n (inl q) = inl (queues.with_node-keeps st.queue t.node n q)
       still n (inr (inl o)) =
           elim (cases_eq o.0.number t.number) [

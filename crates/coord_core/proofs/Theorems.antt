@@ -14,7 +14,7 @@ use Rattle.coord_core.specs.declared.answers.Taken.TheVariants.{Idle, Done}
 use Rattle.coord_core.specs.declared.answers.Ended.{Ended}
 use Rattle.coord_core.specs.declared.answers.Ended.TheVariants.{Joined, Stranger as NotOut}
 use Rattle.coord_core.specs.Answers.{IsGot, IsTake, IsEnd}
-use Rattle.coord_core.specs.Facts.{AreWithin, SnapshotsAreAtMost, IsCaredFor, ReachedNodesAreCaredFor, IsAdvance}
+use Rattle.coord_core.specs.Facts.{AreWithin, SnapshotsAreAtMost, IsPendingOrStable, ReachedNodesArePendingOrStable, IsAdvance}
 use Rattle.coord_core.proofs.Lists.{all_from_each, each_weaker}
 use Rattle.coord_core.proofs.Sweeps as sweeps
 use Rattle.coord_core.proofs.Sound as sound
@@ -35,13 +35,13 @@ module _ {V : Type 0} (is_value : V → Type 0) (l : LatticeMeaning V) (s : Syst
   snapshots st w =
       all_from_each _ st.out (each_weaker (sound.IsTicket is_value l s laws sys st.table st.takes) (λ t. AllZip (λ x y. IsTrue (l.at_most x y)) t.snapshot (values_of l st.table (s.needs t.node))) (λ t i. i.at_most) st.out w.tickets)
 
-  cared : (st : State V) (node : ℕ) → sound.IsCared is_value l s laws sys st node → IsCaredFor l s st node
-  cared st node (inl q) = inl q
-  cared st node (inr (inl o)) = inr (inl (o.0, contains_from_in o.0 st.out o.1, o.2, o.3))
-  cared st node (inr (inr f)) = inr (inr (all_from_each _ (outputs_on l s st.table node) f))
+  as_stated : (st : State V) (node : ℕ) → sound.IsPendingOrStable is_value l s laws sys st node → IsPendingOrStable l s st node
+  as_stated st node (inl q) = inl q
+  as_stated st node (inr (inl o)) = inr (inl (o.0, contains_from_in o.0 st.out o.1, o.2, o.3))
+  as_stated st node (inr (inr f)) = inr (inr (all_from_each _ (outputs_on l s st.table node) f))
 
-  pub cared_for : (st : State V) → IsSound st → ReachedNodesAreCaredFor l s st
-  cared_for st w node h ne = cared st node (w.cared node h ne)
+  pub pending_or_stable : (st : State V) → IsSound st → ReachedNodesArePendingOrStable l s st
+  pending_or_stable st w node h ne = as_stated st node (w.pending_or_stable node h ne)
 
   -- one ticket was taken with nothing out, and finished
   pub advances : (st st1 st2 : State V) (worker : ℕ) (t : Ticket V) → st ≡ replay l s st.journal → st.out ≡ [] → IsGot l s st worker t st1 → st2 ≡ step l s st1 (Finish t.worker t.number) → IsAdvance l s st st2

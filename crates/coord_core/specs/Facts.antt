@@ -3,10 +3,11 @@ use Rattle.std.specs.Prelude.{◌≡◌, ◌≢◌, ℕ, ◌+◌, ◌<◌, ◌�
 use Rattle.std.specs.List.{All, AllZip, Contains, list_any}
 use Rattle.lattice_laws.specs.Lattices.{LatticeMeaning}
 use Rattle.lattice_laws.specs.Systems.{SystemMeaning, reached_cell}
+use Rattle.coord_core.specs.declared.event.Event.{Event}
 use Rattle.coord_core.specs.Tickets.{TicketView}
 use Rattle.coord_core.specs.Tables.{value_of, values_of, outputs_on}
 use Rattle.coord_core.specs.States.{State}
-use Rattle.coord_core.specs.Bounds.{give_backs_in, take_bound}
+use Rattle.coord_core.specs.Bounds.{takes_in, give_backs_in, take_bound}
 
 -- each of these outputs is at most what its cell has
 abbrev pub AreWithin : {V : Type 0} → LatticeMeaning V → List V → List (ℕ × V) → Type 0
@@ -21,13 +22,17 @@ abbrev pub IsOutWithCurrent : {V : Type 0} → LatticeMeaning V → SystemMeanin
 IsOutWithCurrent {V} l s st node = (t : TicketView V) × Contains st.out t × (t.node ≡ node) × (t.snapshot ≡ values_of l st.table (s.needs node))
 
 -- the node waits, or is out with the table's values, or has nothing to add to the table
-abbrev pub IsCaredFor : {V : Type 0} → LatticeMeaning V → SystemMeaning V → State V → ℕ → Type 0
-IsCaredFor l s st node =
+abbrev pub IsPendingOrStable : {V : Type 0} → LatticeMeaning V → SystemMeaning V → State V → ℕ → Type 0
+IsPendingOrStable l s st node =
     IsTrue (list_any (nat_eq node) st.queue) ⊎ (IsOutWithCurrent l s st node ⊎ AreWithin l st.table (outputs_on l s st.table node))
 
 -- each node whose reached cell isn't bottom
-abbrev pub ReachedNodesAreCaredFor : {V : Type 0} → LatticeMeaning V → SystemMeaning V → State V → Type 0
-ReachedNodesAreCaredFor l s st = (node : ℕ) → node < s.nodes → value_of l st.table (reached_cell s node) ≢ l.bottom → IsCaredFor l s st node
+abbrev pub ReachedNodesArePendingOrStable : {V : Type 0} → LatticeMeaning V → SystemMeaning V → State V → Type 0
+ReachedNodesArePendingOrStable l s st = (node : ℕ) → node < s.nodes → value_of l st.table (reached_cell s node) ≢ l.bottom → IsPendingOrStable l s st node
+
+-- no more takes than the system's bound and the give-backs
+abbrev pub TakesAreBounded : {V : Type 0} → LatticeMeaning V → SystemMeaning V → List Event → Type 0
+TakesAreBounded l s events = takes_in events ≤ take_bound l s + give_backs_in events
 
 -- one ticket more was given, and nothing is out
 pub record IsAdvance {V : Type 0} (l : LatticeMeaning V) (s : SystemMeaning V) (old new : State V) : Type 0 where

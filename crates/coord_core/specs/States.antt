@@ -1,5 +1,5 @@
 -- The coordinator as a machine: its states, and what each event makes of them.
-use Rattle.std.specs.Prelude.{ℕ, ◌+◌, List, [], ◌∷◌, ◌++◌, Bool, false, not, length, drop, slice_set, ◌==◌, ◌&&◌, nat_eq, if◌then◌else◌, Option, Some, None}
+use Rattle.std.specs.Prelude.{◌≡◌, ℕ, ◌+◌, List, [], ◌∷◌, ◌++◌, Bool, false, not, length, drop, slice_set, ◌==◌, ◌&&◌, nat_eq, if◌then◌else◌, Option, Some, None}
 use Rattle.std.specs.List.{filter, find, list_any}
 use Rattle.lattice_laws.specs.Lattices.{LatticeMeaning}
 use Rattle.lattice_laws.specs.Systems.{SystemMeaning, reached_cell}
@@ -137,6 +137,10 @@ steps l s st (event ∷ events) = steps l s (step l s st event) events
 -- events in order, from the opened state
 abbrev pub replay : {V : Type 0} → LatticeMeaning V → SystemMeaning V → List Event → State V
 replay l s events = steps l s (opened l s) events
+
+-- the state is where its journal leads
+abbrev pub IsReplayed : {V : Type 0} → LatticeMeaning V → SystemMeaning V → State V → Type 0
+IsReplayed l s st = st ≡ replay l s st.journal
 
 -- nothing waits and nothing is out
 abbrev pub is_finished : {V : Type 0} → State V → Bool

@@ -1,9 +1,8 @@
 ghost use Rattle.std.specs.Prelude.{◌≡◌, ◌+◌, ◌≤◌, [], IfOk, OnErr, MatchBool, length};
 ghost use Rattle.coord_core.specs.Tables.{least};
 ghost use Rattle.coord_core.specs.States.{opened, replay, is_finished};
-ghost use Rattle.coord_core.specs.Bounds.{takes_in, give_backs_in, take_bound};
 ghost use Rattle.coord_core.specs.Answers.{IsTake, IsEnd, IsReturn};
-ghost use Rattle.coord_core.specs.Facts.{IsAdvance};
+ghost use Rattle.coord_core.specs.Facts.{IsAdvance, TakesAreBounded};
 
 use crate::answers::{Ended, Returned, Taken};
 use crate::event::Event;
@@ -32,15 +31,31 @@ pub struct Coord<'a, S: System> {
 
 impl<'a, S: System> Model for Coord<'a, S> {
     ghost use Rattle.std.specs.Prelude.{◌≡◌, ◌+◌, ◌≤◌, map, vec_len, vec_capacity};
-    ghost use Rattle.coord_core.specs.States.{State, replay};
+    ghost use Rattle.coord_core.specs.States.{State, IsReplayed};
     ghost use Rattle.coord_core.specs.Tickets.{ticket_view};
 
     ghost Value = { State S.Value };
 
-    ghost view = { λ c. record { table = c.table.items; queue = c.queue.waiting; out = map ticket_view c.out.items; takes = c.takes; journal = c.journal.items } };
+    ghost view = { λ c. record {
+      table = c.table.items;
+      queue = c.queue.waiting;
+      out = map ticket_view c.out.items;
+      takes = c.takes;
+      journal = c.journal.items;
+    } };
 
-    // the state is the replay of its journal, and the journal has room for the end of each ticket that is out
-    ghost invariant = { λ c. (record { table = c.table.items; queue = c.queue.waiting; out = map ticket_view c.out.items; takes = c.takes; journal = c.journal.items } ≡ replay S.Value.meaning S.meaning c.journal.items) × (c.queue.nodes ≡ S.meaning.nodes) × (vec_len c.journal + vec_len c.out ≤ vec_capacity c.journal) };
+    // the state is where its journal leads, every node may wait, and the journal has room for the end of each ticket
+    // that is out
+    ghost invariant = { λ c.
+        IsReplayed S.Value.meaning S.meaning (record {
+          table = c.table.items;
+          queue = c.queue.waiting;
+          out = map ticket_view c.out.items;
+          takes = c.takes;
+          journal = c.journal.items;
+        })
+        × (c.queue.nodes ≡ S.meaning.nodes)
+        × (vec_len c.journal + vec_len c.out ≤ vec_capacity c.journal) };
 }
 
 impl<'a, S: System> Coord<'a, S> {
@@ -71,7 +86,7 @@ impl<'a, S: System> Coord<'a, S> {
     pub fn journal(&self) -> &[Event]
         ensures journal { result.now ≡ self.now.journal }
         ensures replayed { self.now ≡ replay S.Value.meaning S.meaning result.now }
-        ensures bounded { takes_in result.now ≤ take_bound S.Value.meaning S.meaning + give_backs_in result.now }
+        ensures bounded { TakesAreBounded S.Value.meaning S.meaning result.now }
     {
         &self.journal
     }
@@ -192,7 +207,10 @@ impl<'a, S: System> Coord<'a, S> {
     /// Takes a ticket as worker 0, analyses and finishes it, and says whether there was one.
     fn finish_next(&mut self, alloc: Global) -> Result<bool, Memory>
         requires { self.old.out ≡ [] }
-        ensures { IfOk result (λ more. MatchBool more (IsAdvance S.Value.meaning S.meaning self.old self.new) (self.new.table ≡ least S.Value.meaning S.meaning)) }
+        ensures { IfOk result (λ more.
+            MatchBool more
+            (IsAdvance S.Value.meaning S.meaning self.old self.new)
+            (self.new.table ≡ least S.Value.meaning S.meaning)) }
     {
         let system = self.system;
         let ticket = match self.take(alloc, 0)? {

@@ -18,7 +18,8 @@ fn join_output<S: System>(
     requires cells { length table.old ≡ S.meaning.cells }
     requires nodes { queue.old.nodes ≡ S.meaning.nodes }
     ensures table { table.new ≡ joined S.Value.meaning table.old (cell, value) }
-    ensures queue { queue.new.waiting ≡ queued_after S.Value.meaning S.meaning table.old queue.old.waiting (cell, value) }
+    ensures queue { queue.new.waiting
+        ≡ queued_after S.Value.meaning S.meaning table.old queue.old.waiting (cell, value) }
     ensures nodes { queue.new.nodes ≡ queue.old.nodes }
     ensures rises { result ≡ rises S.Value.meaning table.old (cell, value) }
 {
@@ -44,10 +45,13 @@ pub fn join_outputs<S: System>(
     requires outputs { length outputs.now ≡ length (S.meaning.gives node) }
     requires cells { length table.old ≡ S.meaning.cells }
     requires nodes { queue.old.nodes ≡ S.meaning.nodes }
-    ensures table { table.new ≡ joined_all S.Value.meaning table.old (zip (S.meaning.gives node) outputs.now) }
-    ensures queue { queue.new.waiting ≡ queue_after S.Value.meaning S.meaning table.old queue.old.waiting (zip (S.meaning.gives node) outputs.now) }
+    ensures table { let given = zip (S.meaning.gives node) outputs.now in
+        table.new ≡ joined_all S.Value.meaning table.old given }
+    ensures queue { let given = zip (S.meaning.gives node) outputs.now in
+        queue.new.waiting ≡ queue_after S.Value.meaning S.meaning table.old queue.old.waiting given }
     ensures nodes { queue.new.nodes ≡ queue.old.nodes }
-    ensures risen { result ≡ risen S.Value.meaning table.old (zip (S.meaning.gives node) outputs.now) }
+    ensures risen { let given = zip (S.meaning.gives node) outputs.now in
+        result ≡ risen S.Value.meaning table.old given }
 {
     let gives = system.gives(node);
     let mut risen = 0;

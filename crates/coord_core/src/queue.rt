@@ -41,7 +41,7 @@ impl Queue {
 
     /// The node that waits longest.
     pub fn first(&self) -> Option<u32>
-        ensures some { IfSome result (λ node. (IsTrue (is_next self.now.waiting node))) }
+        ensures some { IfSome result (λ node. IsTrue (is_next self.now.waiting node)) }
         ensures in_range { IfSome result (λ node. node < self.now.nodes) }
         ensures none { IfNone result (self.now.waiting ≡ []) }
     {
@@ -60,7 +60,8 @@ impl Queue {
     /// Puts a node at the back, where it doesn't wait already.
     pub fn add(&mut self, node: u32)
         requires { node < self.old.nodes }
-        ensures { self.new ≡ record { nodes = self.old.nodes; waiting = with_node self.old.waiting node } }
+        ensures { self.new
+            ≡ record { nodes = self.old.nodes; waiting = with_node self.old.waiting node } }
     {
         if !self.queued[node as usize] {
             self.queued[node as usize] = true;
@@ -71,7 +72,8 @@ impl Queue {
     /// Puts those of the nodes at the back that don't wait already, in their order.
     pub fn add_all(&mut self, nodes: &[u32])
         requires { All (λ node. node < self.old.nodes) nodes.now }
-        ensures { self.new ≡ record { nodes = self.old.nodes; waiting = with_nodes self.old.waiting nodes.now } }
+        ensures { self.new
+            ≡ record { nodes = self.old.nodes; waiting = with_nodes self.old.waiting nodes.now } }
     {
         for node in nodes {
             self.add(*node);

@@ -32,7 +32,8 @@ fn bottom_table<S: System>(alloc: Global, system: &S) -> Result<Vec<S::Value>, M
 
 /// The table with which a coordinator opens: the starts, and bottom elsewhere.
 pub fn started_table<S: System>(alloc: Global, system: &S) -> Result<Vec<S::Value>, Memory>
-    ensures { IfOk result (λ table. table.items ≡ started (bottoms S.Value.meaning S.meaning) S.meaning.starts) }
+    ensures { IfOk result (λ table.
+        table.items ≡ started (bottoms S.Value.meaning S.meaning) S.meaning.starts) }
 {
     let mut table = bottom_table(alloc, system)?;
     for start in system.starts() {
@@ -44,7 +45,10 @@ pub fn started_table<S: System>(alloc: Global, system: &S) -> Result<Vec<S::Valu
 /// For each cell, whether it starts with a value.
 fn started_cells<S: System>(alloc: Global, system: &S) -> Result<Vec<bool>, Memory>
     ensures cells { IfOk result (λ flags. length flags.items ≡ S.meaning.cells) }
-    ensures flags { IfOk result (λ flags. (cell : ℕ) → cell < S.meaning.cells → slice_index_or flags.items cell false ≡ list_any (λ start. start.0 == cell) S.meaning.starts) }
+    ensures flags { IfOk result (λ flags.
+        (cell : ℕ) → cell < S.meaning.cells →
+        slice_index_or flags.items cell false
+        ≡ list_any (λ start. start.0 == cell) S.meaning.starts) }
 {
     let mut flags = vec![in alloc; false; system.cells() as usize]?;
     for start in system.starts() {
@@ -55,7 +59,8 @@ fn started_cells<S: System>(alloc: Global, system: &S) -> Result<Vec<bool>, Memo
 
 /// The queue with which a coordinator opens: the nodes whose reached cell is started, ascending.
 pub fn started_queue<S: System>(alloc: Global, system: &S) -> Result<Queue, Memory>
-    ensures waiting { IfOk result (λ queue. queue.waiting ≡ filter (is_started S.meaning) (numbers_below S.meaning.nodes)) }
+    ensures waiting { IfOk result (λ queue.
+        queue.waiting ≡ filter (is_started S.meaning) (numbers_below S.meaning.nodes)) }
     ensures nodes { IfOk result (λ queue. queue.nodes ≡ S.meaning.nodes) }
 {
     let started = started_cells(alloc, system)?;
