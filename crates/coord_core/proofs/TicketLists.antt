@@ -1,7 +1,7 @@
 -- The tickets that are out: membership, the order of their numbers, and finding one by its number.
-use Rattle.std.proofs.Common.{◌≡◌, ℕ, zero, suc, ◌<◌, ◌⊎◌, inl, inr, Bool, true, false, not, List, [], ◌∷◌, ◌++◌, ◌==◌, refl, sym, ap, ◌∙◌, subst, arith, eqb-true, eq-eqb, ne_eqb, Some}
+use Rattle.std.proofs.Common.{◌≡◌, ℕ, zero, suc, ◌<◌, ◌⊎◌, inl, inr, Bool, true, false, not, List, [], ◌∷◌, ◌++◌, ◌==◌, refl, sym, ap, ◌∙◌, subst, arith, eq-eqb, ne_eqb, Some}
 use Rattle.std.specs.List.{AllByRecursion, Contains, filter, find}
-use Rattle.std.proofs.lemmas.Bool.{cases_Bool, and_parts}
+use Rattle.std.proofs.lemmas.Bool.{cases_Bool}
 use Rattle.coord_core.specs.Tickets.{TicketView}
 use Rattle.coord_core.specs.States.{has_number, is_given, without}
 use Rattle.coord_core.proofs.Lists.{each-append}
@@ -98,13 +98,6 @@ module _ {V : Type 0} where
     where
       other : (m n : ℕ) → m < n → (m == n) ≡ false
       other m n h = ne_eqb m n (λ e. omega arith)
-
-  -- the ticket that is found has the worker and the number
-  pub given_number : (worker number : ℕ) (t : TicketView V) → is_given worker number t ≡ true → t.number ≡ number
-  given_number worker number t h = eqb-true t.number number (and_parts (t.number == number) (t.worker == worker) h).0
-
-  pub given_worker : (worker number : ℕ) (t : TicketView V) → is_given worker number t ≡ true → t.worker ≡ worker
-  given_worker worker number t h = eqb-true t.worker worker (and_parts (t.number == number) (t.worker == worker) h).1
 
   -- another ticket stays
   pub stays : (ts : List (TicketView V)) (t u : TicketView V) → (u.number ≡ t.number → ⊥) → IsIn u ts → IsIn u (without t.number ts)

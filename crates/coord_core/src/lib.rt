@@ -36,5 +36,6 @@ pub use answers::{Ended, Returned, Taken};
 pub use coord::Coord;
 pub use event::Event;
 pub use finished::{Finished, analyse};
+pub use lattice_laws::Memory;
 pub use laws::{every_history, least_is_least};
 pub use ticket::Ticket;
