@@ -1,11 +1,20 @@
 // Terms of the language: what programs compute with, and what every layer says of them.
 //
 // Files:
-//   limits.rt   the limits, each by name with its reason
-//   place.rt    places in a text
+//   limits.rt     the limits, each by name with its reason
+//   place.rt      places in a text
+//   atom.rt       atoms
+//   bif.rt        the built-in functions of `erlang`
+//   constant.rt   constants and calls
 #![tactic(auto)]
 
+pub mod atom;
+pub mod bif;
+pub mod constant;
 pub mod limits;
 pub mod place;
 
+pub use atom::Atom;
+pub use bif::Bif;
+pub use constant::{Call, Constant};
 pub use place::Place;
