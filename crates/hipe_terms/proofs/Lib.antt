@@ -1,1 +1,4 @@
 mod BifTable
+pub mod Levels
+pub mod Parts
+pub mod Ordering

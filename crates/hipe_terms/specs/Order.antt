@@ -1,5 +1,5 @@
 -- The order of terms: number < atom < fun < tuple < nil < list.
-use Rattle.std.specs.Prelude.{ℕ}
+use Rattle.std.specs.Prelude.{ℕ, List, [], ◌∷◌}
 use Rattle.std.specs.Ordering.{nat_cmp, int_cmp, ordering_then}
 use Rattle.std.specs.Cmp.Lexicographic.{slice_cmp}
 use Rattle.std.specs.declared.cmp.Ordering.{Ordering}
@@ -32,3 +32,9 @@ abbrev mutual
   order_all none (more u us) = Less
   order_all (more t ts) none = Greater
   order_all (more t ts) (more u us) = ordering_then (order t u) (order_all ts us)
+
+-- the first two that differ, of as many as both have
+abbrev pub order_common : List Term → List Term → Ordering
+order_common [] us = Equal
+order_common (t ∷ ts) [] = Equal
+order_common (t ∷ ts) (u ∷ us) = ordering_then (order t u) (order_common ts us)

@@ -1,8 +1,11 @@
 // Atoms: names that stand for themselves.
 
 ghost use Rattle.std.specs.Prelude.{◌≡◌, ◌≤◌, ◌<◌, length, chars, string_bytes, encode_utf8_all, MatchResult};
+ghost use Rattle.std.specs.Ordering.{nat_cmp};
+ghost use Rattle.std.specs.Cmp.Lexicographic.{slice_cmp};
 
 use crate::limits::ATOM_LIMIT;
+use std::cmp::Ordering;
 use std::marker::Model;
 
 /// An atom: a text of at most 255 code points, which its type keeps. Contracts see it as the list of its code points.
@@ -45,5 +48,12 @@ impl Atom {
         ensures { result.now ≡ encode_utf8_all self.now }
     {
         self.text.as_str()
+    }
+
+    /// The order of two atoms, by code points. It takes no memory.
+    pub fn order(&self, other: &Atom) -> Ordering
+        ensures { result ≡ slice_cmp nat_cmp self.now other.now }
+    {
+        self.text.chars().cmp(other.text.chars())
     }
 }

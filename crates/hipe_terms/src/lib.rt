@@ -6,15 +6,20 @@
 //   atom.rt       atoms
 //   bif.rt        the built-in functions of `erlang`
 //   constant.rt   constants and calls
+//   order.rt      the order of constants
+//   words.rt      the words that constants take
 #![tactic(auto)]
 
 pub mod atom;
 pub mod bif;
 pub mod constant;
 pub mod limits;
+pub mod order;
 pub mod place;
+pub mod words;
 
 pub use atom::Atom;
 pub use bif::Bif;
 pub use constant::{Call, Constant};
 pub use place::Place;
+pub use words::words_of;
