@@ -2,3 +2,4 @@ mod BifTable
 pub mod Levels
 pub mod Parts
 pub mod Ordering
+pub mod TotalOrder

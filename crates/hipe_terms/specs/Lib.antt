@@ -7,3 +7,4 @@ pub mod Constants
 pub mod Words
 pub mod Bifs
 pub mod Outcome
+pub mod Laws

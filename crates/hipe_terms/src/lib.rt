@@ -21,5 +21,6 @@ pub mod words;
 pub use atom::Atom;
 pub use bif::Bif;
 pub use constant::{Call, Constant};
+pub use order::{order_is_total, order_tells_apart, same};
 pub use place::Place;
 pub use words::words_of;

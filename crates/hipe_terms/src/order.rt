@@ -1,8 +1,9 @@
 // The order of constants.
 
-ghost use Rattle.std.specs.Prelude.{◌≡◌, map, length};
+ghost use Rattle.std.specs.Prelude.{◌≡◌, ◌↔◌, map, length, IsTrue};
 ghost use Rattle.std.specs.Ordering.{ordering_then, nat_cmp};
 ghost use Rattle.hipe_terms.specs.Constants.{IsConstant, AreConstants};
+ghost use Rattle.hipe_terms.specs.Laws.{OrderIsTotal, OrderTellsApart};
 ghost use Rattle.hipe_terms.specs.Order.{order, order_common};
 ghost use Rattle.hipe_terms.specs.Terms.{term_of, tuple, terms};
 
@@ -52,6 +53,27 @@ pub fn order(a: &Constant, b: &Constant) -> Ordering
         },
     }
 }
+
+/// Whether two constants are equal. It takes no memory.
+#[tactic(auto, using(crate::proofs::TotalOrder::order_tells_apart))]
+pub fn same(a: &Constant, b: &Constant) -> bool
+    requires first { IsConstant a.now }
+    requires second { IsConstant b.now }
+    ensures { IsTrue result ↔ (term_of a.now ≡ term_of b.now) }
+{
+    order(a, b) == Ordering::Equal
+}
+
+/// The order of terms is total: of two terms one comes first, or neither, whichever is asked about, and what comes before
+/// another comes before all that come after that one.
+pub fn order_is_total()
+    ensures { OrderIsTotal }
+{}
+
+/// The order of terms tells all terms apart: neither of two comes first exactly where they are equal.
+pub fn order_tells_apart()
+    ensures { OrderTellsApart }
+{}
 
 // The order of two tuples of these elements.
 #[cycle(order)]
