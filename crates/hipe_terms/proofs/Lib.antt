@@ -3,3 +3,4 @@ pub mod Levels
 pub mod Parts
 pub mod Ordering
 pub mod TotalOrder
+pub mod Texts

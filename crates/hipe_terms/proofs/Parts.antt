@@ -79,6 +79,9 @@ tail_good c cs d e g = and_first _ (not (form_of d).list) (tail_both c cs d e g)
 pub tail_ends : (c : Constant) (cs : List Constant) (d : Constant) → out-Constant c ≡ Constant-F.List cs d → IsConstant c → is_list d ≡ false
 tail_ends c cs d e g = not_true _ (and_second (form_of d).good _ (tail_both c cs d e g))
 
+pub some_parts : (c : Constant) (cs : List Constant) (d : Constant) → out-Constant c ≡ Constant-F.List cs d → IsConstant c → has_parts (map form_of cs) ≡ true
+some_parts c cs d e g = and_first _ (rest_good cs d) (good_here c (Constant-F.List cs d) e g)
+
 -- ---- the kinds of terms
 
 parts_rank : (cs : List Constant) (t : Term) → has_parts (map form_of cs) ≡ true → rank (cells (map term_of cs) t) ≡ 5
@@ -88,7 +91,7 @@ parts_rank (c ∷ cs) t e = refl
 -- a list's term is a cons
 pub list_rank : (c : Constant) (cs : List Constant) (d : Constant) → out-Constant c ≡ Constant-F.List cs d → IsConstant c → rank (term_of c) ≡ 5
 list_rank c cs d e g =
-    ap rank (term_is c ∙ ap level_term e) ∙ parts_rank cs (term_of d) (and_first _ (rest_good cs d) (good_here c (Constant-F.List cs d) e g))
+    ap rank (term_is c ∙ ap level_term e) ∙ parts_rank cs (term_of d) (some_parts c cs d e g)
 
 level_rank : (l : Constant-F Constant) → (level_form l).list ≡ false → rank (level_term l) < 5
 level_rank (Constant-F.Int n) e = lit< tt

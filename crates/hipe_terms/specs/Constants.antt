@@ -36,3 +36,10 @@ IsConstant c = (form_of c).good ≡ true
 
 abbrev pub AreConstants : List Constant → Type 0
 AreConstants cs = All IsConstant cs
+
+abbrev pub is_nil_at : Constant-F Constant → Bool
+is_nil_at Constant-F.Nil = true
+is_nil_at _ = false
+
+abbrev pub is_nil : Constant → Bool
+is_nil c = is_nil_at (out-Constant c)

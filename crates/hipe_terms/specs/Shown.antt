@@ -82,3 +82,13 @@ abbrev mutual
   pub shown_more : Names → Terms → List ℕ
   shown_more names none = []
   shown_more names (more t ts) = codes "," ++ shown names t ++ shown_more names ts
+
+-- a comma, but for the first of some terms
+abbrev pub comma_before : ℕ → List ℕ
+comma_before zero = []
+comma_before (suc i) = codes ","
+
+-- the terms from the one with this number on, where 0 is the first, with a comma before each but the first
+abbrev pub shown_from : Names → ℕ → Terms → List ℕ
+shown_from names zero ts = shown_all names ts
+shown_from names (suc i) ts = shown_more names ts

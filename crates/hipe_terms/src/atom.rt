@@ -1,10 +1,11 @@
 // Atoms: names that stand for themselves.
 
-ghost use Rattle.std.specs.Prelude.{◌≡◌, ◌≤◌, ◌<◌, length, chars, string_bytes, encode_utf8_all, MatchResult};
+ghost use Rattle.std.specs.Prelude.{◌≡◌, ◌≤◌, ◌<◌, length, chars, string_bytes, encode_utf8_all, MatchResult, IfOk};
 ghost use Rattle.std.specs.Ordering.{nat_cmp};
 ghost use Rattle.std.specs.Cmp.Lexicographic.{slice_cmp};
 
 use crate::limits::ATOM_LIMIT;
+use std::alloc::{AllocError, Global};
 use std::cmp::Ordering;
 use std::marker::Model;
 
@@ -48,6 +49,13 @@ impl Atom {
         ensures { result.now ≡ encode_utf8_all self.now }
     {
         self.text.as_str()
+    }
+
+    /// The code points. An error where there is no memory for them.
+    pub fn code_points(&self, alloc: Global) -> Result<Vec<char>, AllocError>
+        ensures { IfOk result (λ points. points.items ≡ self.now) }
+    {
+        self.text.chars().collect(alloc)
     }
 
     /// The order of two atoms, by code points. It takes no memory.

@@ -6,21 +6,25 @@
 //   atom.rt       atoms
 //   bif.rt        the built-in functions of `erlang`
 //   constant.rt   constants and calls
-//   order.rt      the order of constants
+//   compare.rt    the order of constants
+//   text.rt       the text of constants
 //   words.rt      the words that constants take
 #![tactic(auto)]
 
 pub mod atom;
 pub mod bif;
+pub mod compare;
 pub mod constant;
 pub mod limits;
-pub mod order;
+
 pub mod place;
+pub mod text;
 pub mod words;
 
 pub use atom::Atom;
 pub use bif::Bif;
 pub use constant::{Call, Constant};
-pub use order::{order_is_total, order_tells_apart, same};
+pub use compare::{order, order_is_total, order_tells_apart, same};
 pub use place::Place;
+pub use text::{Memory, show};
 pub use words::words_of;

@@ -9,7 +9,7 @@ use Rattle.hipe_terms.specs.declared.constant.Constant.TheVariants.{outs-Int, ou
 use Rattle.hipe_terms.specs.declared.constant.Constant.TheViews.{the_lemmas}
 use Rattle.hipe_terms.specs.Constants.{IsConstant}
 use Rattle.hipe_terms.proofs.Parts.{tuple_parts, list_parts, tail_good, list_is, no_list, is_constant_of, below_list, above_list, list_order, constant_tuples, then_equal, then_other}
-use Rattle.hipe_terms.proofs.order.+order.Goals as goal
+use Rattle.hipe_terms.proofs.compare.+order.Goals as goal
 
 -- what the elements tell, by the lists that they are in
 by_parts : {r : Ordering} {xs ys cs ds : List Constant} → r ≡ ordering_then (order_common (map term_of xs) (map term_of ys)) (nat_cmp (length xs) (length ys)) → xs ≡ cs → ys ≡ ds
