@@ -1,5 +1,5 @@
 -- Each built-in function of `erlang` at its edges. Each line is checked by computing its left side.
-use Rattle.std.proofs.Common.{◌≡◌, ℕ, ◌+◌, pos, negsuc, true, List, [], ◌∷◌, refl, codes}
+use Rattle.std.proofs.Common.{◌≡◌, ◌+◌, pos, negsuc, true, List, [], ◌∷◌, refl, codes}
 use Rattle.hipe_terms.specs.Terms.{Term, integer, atom, nil, tuple, fun, terms, cells}
 use Rattle.hipe_terms.specs.Outcome.{Outcome, error, exit, throw, value, builds, gives, raises, badarith, badarg, system_limit, undef, boolean_term, bif_outcome}
 use Rattle.hipe_terms.specs.declared.bif.Bif.{Bif}

@@ -1,11 +1,11 @@
 -- Folds of constants, by what a constant is made of.
-use Rattle.std.proofs.Common.{◌≡◌, ℕ, ◌+◌, ◌*◌, List, map, sum, length, refl, sym, ◌∙◌, ap}
+use Rattle.std.proofs.Common.{◌≡◌, ℕ, ◌+◌, map, sum, length, refl, ◌∙◌, ap}
 use Rattle.std.proofs.lemmas.List.{length-map}
 use Rattle.hipe_terms.specs.declared.constant.Constant.{Constant, out-Constant}
 use Rattle.hipe_terms.specs.declared.constant.Constant.TheOpen.{Constant-F}
 use Rattle.hipe_terms.specs.declared.constant.Constant.TheFolds.{fold_out-Constant, fold-Constant, map-Constant}
 use Rattle.hipe_terms.specs.declared.constant.Constant.TheViews.{the_lemmas}
-use Rattle.hipe_terms.specs.Terms.{Term, integer, atom, nil, cons, tuple, terms, cells, term_at, term_of}
+use Rattle.hipe_terms.specs.Terms.{Term, integer, atom, nil, tuple, terms, cells, term_at, term_of}
 use Rattle.hipe_terms.specs.Words.{words_at, words_of, list_words, tuple_words}
 
 abbrev pub level_words : Constant-F Constant → ℕ

@@ -1,4 +1,5 @@
 mod BifTable
+mod TermTable
 pub mod Levels
 pub mod Parts
 pub mod Ordering

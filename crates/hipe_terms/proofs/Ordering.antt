@@ -1,11 +1,10 @@
 -- The order of terms of different kinds, of lists and of tuples.
-use Rattle.std.proofs.Common.{◌≡◌, ℕ, zero, suc, ◌+◌, ◌<◌, ◌≢◌, List, [], ◌∷◌, map, drop, length, refl, sym, ap, ◌∙◌, subst, arith, true, false, nat_cmp}
+use Rattle.std.proofs.Common.{◌≡◌, ℕ, suc, ◌<◌, List, [], ◌∷◌, length, refl, sym, ap, ◌∙◌, arith, nat_cmp}
 use Rattle.std.proofs.lemmas.Bool.Decides.{nat_tests}
-use Rattle.std.proofs.lemmas.List.{length-map}
 use Rattle.std.specs.Ordering.{ordering_then}
 use Rattle.std.specs.declared.cmp.Ordering.{Ordering}
 use Rattle.std.specs.declared.cmp.Ordering.TheVariants.{Less, Equal, Greater}
-use Rattle.hipe_terms.specs.Terms.{Term, integer, atom, nil, cons, tuple, fun, Terms, none, more, terms, count, cells}
+use Rattle.hipe_terms.specs.Terms.{Term, integer, atom, cons, tuple, fun, terms, count, cells}
 use Rattle.hipe_terms.specs.Order.{order, order_all, order_common, rank}
 
 -- ---- numbers

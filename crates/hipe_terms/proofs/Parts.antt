@@ -1,17 +1,17 @@
 -- What the readers' constants are made of.
-use Rattle.std.proofs.Common.{◌≡◌, ℕ, zero, suc, ◌<◌, ◌≢◌, Bool, true, false, not, ◌&&◌, List, [], ◌∷◌, map, length, All, refl, sym, ap, ◌∙◌, subst, arith, lit<, nat_cmp}
+use Rattle.std.proofs.Common.{◌≡◌, ◌<◌, ◌≢◌, Bool, true, false, not, ◌&&◌, List, [], ◌∷◌, map, length, refl, sym, ap, ◌∙◌, subst, lit<, nat_cmp}
 use Rattle.std.proofs.lemmas.List.{length-map}
 use Rattle.std.specs.Ordering.{ordering_then}
 use Rattle.std.proofs.lemmas.List.Elements.{All-nil, All-cons}
 use Rattle.std.specs.declared.cmp.Ordering.{Ordering}
 use Rattle.std.specs.declared.cmp.Ordering.TheVariants.{Less, Equal, Greater}
 use Rattle.hipe_terms.specs.declared.constant.Constant.{Constant, out-Constant, roll-Constant}
-use Rattle.hipe_terms.specs.declared.constant.Constant.TheViews.{roll-out-Constant, rolls-List, List as Made-List}
+use Rattle.hipe_terms.specs.declared.constant.Constant.TheViews.{the_lemmas, roll-out-Constant, rolls-List, List as Made-List}
 use Rattle.hipe_terms.specs.declared.constant.Constant.TheOpen.{Constant-F}
 use Rattle.hipe_terms.specs.declared.constant.Constant.TheFolds.{fold_out-Constant, fold-Constant, map-Constant}
 use Rattle.hipe_terms.specs.Constants.{Form, form_at, form_of, are_all_good, has_parts, is_list, IsConstant, AreConstants}
 use Rattle.hipe_terms.specs.Range.{is_in_range}
-use Rattle.hipe_terms.specs.Terms.{Term, integer, atom, nil, cons, tuple, fun, terms, cells, term_of}
+use Rattle.hipe_terms.specs.Terms.{Term, tuple, terms, cells, term_of}
 use Rattle.hipe_terms.specs.Order.{order, order_common, rank}
 use Rattle.hipe_terms.proofs.Ordering.{kinds_less, kinds_greater, lists_order, tuples_order, then_assoc}
 use Rattle.hipe_terms.proofs.Levels.{level_term, term_is}
@@ -34,6 +34,8 @@ form_level (Constant-F.Tuple cs) = refl
 pub form_is : (c : Constant) → form_of c ≡ level_form (out-Constant c)
 unfolding form_of
 form_is c = fold_out-Constant Form form_at c ∙ form_level (out-Constant c)
+
+pub ruleset form_levels = (the_lemmas, form_is)
 
 -- ---- tests
 
@@ -161,3 +163,20 @@ no_list c h = list_is c (out-Constant c) refl ∙ no_list_at (out-Constant c) (�
 
 pub is_constant_of : (c d : Constant) → c ≡ d → IsConstant d → IsConstant c
 is_constant_of c d e g = subst IsConstant (sym e) g
+
+-- ---- a list that is as the readers give it where its tail is
+
+all_but : (p q r s : Bool) → p ≡ true → q ≡ true → s ≡ false → (p && (q && (r && not s))) ≡ r
+all_but true true true false e f g = refl
+all_but true true false false e f g = refl
+all_but true true r true e f g = cc
+all_but true false r s e f g = cc
+all_but false q r s e f g = cc
+
+pub parts_here : (cs : List Constant) → (cs ≡ [] → ⊥) → has_parts (map form_of cs) ≡ true
+parts_here [] h = absurd (h refl)
+parts_here (c ∷ cs) h = refl
+
+pub good_tail : (c : Constant) (cs : List Constant) (d : Constant) → out-Constant c ≡ Constant-F.List cs d → has_parts (map form_of cs) ≡ true → are_all_good (map form_of cs) ≡ true → is_list d ≡ false → (form_of d).good ≡ (form_of c).good
+good_tail c cs d e p q n =
+    sym (all_but _ _ (form_of d).good (form_of d).list p q n) ∙ ap (λ l. (level_form l).good) (sym e) ∙ ap (λ f. f.good) (sym (form_is c))

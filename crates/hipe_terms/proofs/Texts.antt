@@ -1,9 +1,9 @@
 -- The texts of lists.
-use Rattle.std.proofs.Common.{◌≡◌, ℕ, Bool, true, false, List, [], ◌∷◌, ◌++◌, map, refl, sym, ap, ◌∙◌, append_assoc, codes}
+use Rattle.std.proofs.Common.{◌≡◌, ℕ, true, false, List, [], ◌∷◌, ◌++◌, map, refl, sym, ap, ◌∙◌, append_assoc, codes}
 use Rattle.hipe_terms.specs.declared.constant.Constant.{Constant, out-Constant}
 use Rattle.hipe_terms.specs.declared.constant.Constant.TheOpen.{Constant-F}
-use Rattle.hipe_terms.specs.Constants.{IsConstant, has_parts, form_of, is_list, is_nil, is_nil_at}
-use Rattle.hipe_terms.specs.Terms.{Term, integer, atom, nil, cons, tuple, fun, terms, cells, term_of}
+use Rattle.hipe_terms.specs.Constants.{IsConstant, has_parts, form_of, is_nil, is_nil_at}
+use Rattle.hipe_terms.specs.Terms.{Term, terms, cells, term_of}
 use Rattle.hipe_terms.specs.Shown.{shown, shown_tail, shown_all, shown_more, after_bar}
 use Rattle.hipe_terms.proofs.Levels.{level_term, term_is}
 use Rattle.hipe_terms.proofs.Parts.{level_form, list_is, some_parts, tail_ends}
@@ -45,10 +45,10 @@ pub list_text_with_tail : (c : Constant) (cs : List Constant) (d : Constant) →
 list_text_with_tail c cs d e g n =
     list_shown c cs d e g
     ∙ ap (λ w. codes "[" ++ (shown_all [] (terms (map term_of cs)) ++ w))
-        (ap (shown_tail []) (term_is d)
-          ∙ tail_at (out-Constant d) (sym (list_is d (out-Constant d) refl) ∙ tail_ends c cs d e g) n
-          ∙ append_assoc (codes "|") (shown [] (level_term (out-Constant d))) (codes "]")
-          ∙ ap (λ t. codes "|" ++ (shown [] t ++ codes "]")) (sym (term_is d)))
+    (ap (shown_tail []) (term_is d)
+    ∙ tail_at (out-Constant d) (sym (list_is d (out-Constant d) refl) ∙ tail_ends c cs d e g) n
+    ∙ append_assoc (codes "|") (shown [] (level_term (out-Constant d))) (codes "]")
+    ∙ ap (λ t. codes "|" ++ (shown [] t ++ codes "]")) (sym (term_is d)))
 
 -- ---- texts that pieces were appended to
 

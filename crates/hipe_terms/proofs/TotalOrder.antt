@@ -1,9 +1,9 @@
 -- The order of terms is total, and equal only at equal terms.
-use Rattle.std.proofs.Common.{◌≡◌, ℕ, ℤ, ◌<◌, Bool, true, false, ◌&&◌, ◌==◌, nat_eq, List, [], ◌∷◌, refl, sym, ap, ◌∙◌, subst, arith, nat_cmp, inl, inr, ◌⊎◌}
+use Rattle.std.proofs.Common.{◌≡◌, ℕ, ℤ, ◌<◌, Bool, false, ◌&&◌, nat_eq, List, [], ◌∷◌, refl, sym, ap, ◌∙◌, subst, arith, nat_cmp, inl, inr, ◌⊎◌}
 use Rattle.std.proofs.lemmas.Bool.Decides.{nat_tests}
 use Rattle.std.proofs.lemmas.Int.{ints}
 use Rattle.std.specs.Ordering.{ordering_then, ordering_reverse, int_cmp}
-use Rattle.std.specs.Cmp.{IsTotalOrder, nat_cmp_total, int_cmp_total, then_flip}
+use Rattle.std.specs.Cmp.{nat_cmp_total, int_cmp_total, then_flip}
 use Rattle.std.proofs.lemmas.Cmp.{nat_list_cmp_total}
 use Rattle.std.specs.Cmp.Lexicographic.{slice_cmp}
 use Rattle.std.specs.declared.cmp.Ordering.{Ordering}
@@ -11,7 +11,7 @@ use Rattle.std.specs.declared.cmp.Ordering.TheVariants.{Less, Equal, Greater}
 use Rattle.hipe_terms.specs.Terms.{Term, integer, atom, nil, cons, tuple, fun, Terms, none, more, count}
 use Rattle.hipe_terms.specs.Order.{order, order_all, rank}
 use Rattle.hipe_terms.specs.Laws.{OrderIsTotal, OrderTellsApart}
-use Rattle.hipe_terms.proofs.Ordering.{nat_equal, nat_less, kinds_less}
+use Rattle.hipe_terms.proofs.Ordering.{nat_equal, kinds_less}
 
 -- ---- equal only at equal terms
 
@@ -126,7 +126,7 @@ mutual
       chain nat_cmp f g k (order_all ts us) (order_all us vs) (order_all ts vs) nat_equal (nat_cmp_total.trans f g k) (own_turn (nat_cmp f f) (nat_cmp_total.antisymm f f)) (all_chained ts us vs) h i
   chained (tuple ts) (tuple us) (tuple vs) h i =
       chain nat_cmp (count ts) (count us) (count vs) (order_all ts us) (order_all us vs) (order_all ts vs) nat_equal (nat_cmp_total.trans (count ts) (count us) (count vs))
-        (own_turn (nat_cmp (count ts) (count ts)) (nat_cmp_total.antisymm (count ts) (count ts))) (all_chained ts us vs) h i
+      (own_turn (nat_cmp (count ts) (count ts)) (nat_cmp_total.antisymm (count ts) (count ts))) (all_chained ts us vs) h i
   chained (cons a b) (cons c d) (cons e f) h i =
       chain order a c e (order b d) (order d f) (order b f) equal_only (chained a c e) (order_same a) (chained b d f) h i
   chained nil nil nil h i = h

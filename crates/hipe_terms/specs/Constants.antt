@@ -1,5 +1,5 @@
 -- The constants that the readers give: an integer is in the range, a list has at least one element, and its tail is no list.
-use Rattle.std.specs.Prelude.{◌≡◌, ℤ, Bool, true, false, not, ◌&&◌, List, [], ◌∷◌, All}
+use Rattle.std.specs.Prelude.{◌≡◌, Bool, true, false, not, ◌&&◌, List, [], ◌∷◌, All}
 use Rattle.hipe_terms.specs.declared.constant.Constant.{Constant, out-Constant}
 use Rattle.hipe_terms.specs.declared.constant.Constant.TheOpen.{Constant-F}
 use Rattle.hipe_terms.specs.declared.constant.Constant.TheFolds.{fold-Constant}

@@ -1,5 +1,5 @@
 -- The text of a term.
-use Rattle.std.specs.Prelude.{ℕ, zero, suc, ℤ, Bool, false, ◌==◌, ◌||◌, ◌&&◌, nat_lt, nat_le, if◌then◌else◌, List, [], ◌∷◌, ◌++◌, flat_map, codes, encode_utf8, decimal}
+use Rattle.std.specs.Prelude.{ℕ, zero, suc, Bool, false, ◌==◌, ◌||◌, ◌&&◌, nat_lt, nat_le, if◌then◌else◌, List, [], ◌∷◌, ◌++◌, flat_map, codes, encode_utf8, decimal}
 use Rattle.std.specs.Fmt.{digits, signed_decimal}
 use Rattle.hipe_terms.specs.Terms.{Term, integer, atom, nil, cons, tuple, fun, Terms, none, more}
 

@@ -1,5 +1,5 @@
 -- Terms, what programs compute with, and the terms that constants stand for.
-use Rattle.std.specs.Prelude.{ℕ, zero, suc, ℤ, Bool, true, false, List, [], ◌∷◌}
+use Rattle.std.specs.Prelude.{ℕ, suc, ℤ, List, [], ◌∷◌}
 use Rattle.hipe_terms.specs.declared.constant.Constant.{Constant}
 use Rattle.hipe_terms.specs.declared.constant.Constant.TheOpen.{Constant-F}
 use Rattle.hipe_terms.specs.declared.constant.Constant.TheFolds.{fold-Constant}

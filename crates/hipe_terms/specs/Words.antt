@@ -1,5 +1,5 @@
 -- The words that a constant takes on the heap.
-use Rattle.std.specs.Prelude.{ℕ, ◌+◌, ◌*◌, List, length, sum}
+use Rattle.std.specs.Prelude.{ℕ, ◌+◌, ◌*◌, length, sum}
 use Rattle.hipe_terms.specs.declared.constant.Constant.{Constant}
 use Rattle.hipe_terms.specs.declared.constant.Constant.TheOpen.{Constant-F}
 use Rattle.hipe_terms.specs.declared.constant.Constant.TheFolds.{fold-Constant}

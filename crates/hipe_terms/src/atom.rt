@@ -17,12 +17,13 @@ pub struct Atom {
 
 impl Model for Atom {
     ghost use Rattle.std.specs.Prelude.{ℕ, ◌≤◌, List, length, chars, string_bytes};
+    ghost use Rattle.hipe_terms.specs.declared.limits.TheConstants.{ATOM_LIMIT};
 
     ghost Value = { List ℕ };
 
     ghost view = { λ a. chars (string_bytes a.text) };
 
-    ghost invariant = { λ a. length (chars (string_bytes a.text)) ≤ 255 };
+    ghost invariant = { λ a. length (chars (string_bytes a.text)) ≤ ATOM_LIMIT };
 }
 
 // How many code points a text has.
@@ -35,7 +36,7 @@ fn code_points(text: &str) -> usize
 impl Atom {
     /// The atom of a text, or the text where it has more than 255 code points.
     pub fn new(text: String) -> Result<Atom, String>
-        ensures { MatchResult result (λ a. a ≡ chars (string_bytes text)) (λ back. (back ≡ text) × (255 < length (chars (string_bytes text)))) }
+        ensures { MatchResult result (λ a. a ≡ chars (string_bytes text)) (λ back. (back ≡ text) × (ATOM_LIMIT < length (chars (string_bytes text)))) }
     {
         if code_points(text.as_str()) <= ATOM_LIMIT {
             Ok(Atom { text })

@@ -7,9 +7,8 @@ ghost use Rattle.hipe_terms.specs.Laws.{OrderIsTotal, OrderTellsApart};
 ghost use Rattle.hipe_terms.specs.Order.{order, order_common};
 ghost use Rattle.hipe_terms.specs.Terms.{term_of, tuple, terms};
 
-use std::cmp::Ordering;
-
 use crate::constant::Constant;
+use std::cmp::Ordering;
 
 /// The order of two constants, as their terms': number < atom < tuple < nil < list. Atoms compare by code points,
 /// tuples by size and then by elements, and lists element by element and then by tail. It takes no memory, and its

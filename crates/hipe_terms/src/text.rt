@@ -6,10 +6,9 @@ ghost use Rattle.hipe_terms.specs.Constants.{IsConstant, AreConstants, is_nil};
 ghost use Rattle.hipe_terms.specs.Shown.{in_hex, escaped, quoted, shown, shown_all, comma_before};
 ghost use Rattle.hipe_terms.specs.Terms.{term_of, terms};
 
-use std::alloc::{AllocError, Global};
-
 use crate::atom::Atom;
 use crate::constant::Constant;
+use std::alloc::{AllocError, Global};
 
 /// Want of memory.
 pub type Memory = AllocError;

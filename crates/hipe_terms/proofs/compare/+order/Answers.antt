@@ -1,4 +1,4 @@
-use Rattle.std.proofs.Common.{rules, ap, sym, ◌∙◌, refl, ◌≡◌, List, map, length, nat_cmp}
+use Rattle.std.proofs.Common.{rules, ap, sym, ◌∙◌, ◌≡◌, List, map, length, nat_cmp}
 use Rattle.std.specs.Ordering.{ordering_then}
 use Rattle.std.specs.declared.cmp.Ordering.{Ordering}
 use Rattle.hipe_terms.specs.Order.{order, order_common}
@@ -17,34 +17,31 @@ by_parts : {r : Ordering} {xs ys cs ds : List Constant} → r ≡ ordering_then 
 by_parts {ys = ys} {cs = cs} e p q = e ∙ ap (λ zs. ordering_then (order_common (map term_of zs) (map term_of ys)) (nat_cmp (length zs) (length ys))) p ∙ ap (λ zs. ordering_then (order_common (map term_of cs) (map term_of zs)) (nat_cmp (length cs) (length zs))) q
 
 pub order-order_tuples-requires : goal.order-order_tuples-requires
-order-order_tuples-requires t c =
-    (
-        search (rules, the_lemmas),
-        (
-            All-same IsConstant _ _ c.as_slice.ensures (tuple_parts _ _ (ap out-Constant c.in-Tuple.is ∙ outs-Tuple _) c.requires.first),
-            All-same IsConstant _ _ c.as_slice-in-Tuple-b-2.ensures (tuple_parts _ _ (ap out-Constant c.in-Tuple-b-2.is ∙ outs-Tuple _) c.requires.second),
-        ),
-    )
+order-order_tuples-requires t c = (
+  search (rules, the_lemmas),
+  (
+    All-same IsConstant _ _ c.as_slice.ensures (tuple_parts _ _ (ap out-Constant c.in-Tuple.is ∙ outs-Tuple _) c.requires.first),
+    All-same IsConstant _ _ c.as_slice-in-Tuple-b-2.ensures (tuple_parts _ _ (ap out-Constant c.in-Tuple-b-2.is ∙ outs-Tuple _) c.requires.second),
+  ),
+)
 
 pub order-order_lists-requires : goal.order-order_lists-requires
-order-order_lists-requires t c =
-    (
-        search (rules, the_lemmas),
-        (
-            All-same IsConstant _ _ c.as_slice-in-List-b-5.ensures (list_parts _ _ _ (ap out-Constant c.in-List.is ∙ outs-List c.in-List.xs c.in-List.x) c.requires.first),
-            All-same IsConstant _ _ c.as_slice-in-List-b-5-2.ensures (list_parts _ _ _ (ap out-Constant c.in-List-b-5.is ∙ outs-List c.in-List-b-5.ys c.in-List-b-5.y) c.requires.second),
-        ),
-    )
+order-order_lists-requires t c = (
+  search (rules, the_lemmas),
+  (
+    All-same IsConstant _ _ c.as_slice-in-List-b-5.ensures (list_parts _ _ _ (ap out-Constant c.in-List.is ∙ outs-List c.in-List.xs c.in-List.x) c.requires.first),
+    All-same IsConstant _ _ c.as_slice-in-List-b-5-2.ensures (list_parts _ _ _ (ap out-Constant c.in-List-b-5.is ∙ outs-List c.in-List-b-5.ys c.in-List-b-5.y) c.requires.second),
+  ),
+)
 
 pub order-order-requires-in-Equal : goal.order-order-requires-in-Equal
-order-order-requires-in-Equal t c =
-    (
-        search (rules, the_lemmas),
-        (
-            is_constant_of _ _ c.get.ensures (tail_good _ _ _ (ap out-Constant c.in-List.is ∙ outs-List c.in-List.xs c.in-List.x) c.requires.first),
-            is_constant_of _ _ c.get-in-Equal.ensures (tail_good _ _ _ (ap out-Constant c.in-List-b-5.is ∙ outs-List c.in-List-b-5.ys c.in-List-b-5.y) c.requires.second),
-        ),
-    )
+order-order-requires-in-Equal t c = (
+  search (rules, the_lemmas),
+  (
+    is_constant_of _ _ c.get.ensures (tail_good _ _ _ (ap out-Constant c.in-List.is ∙ outs-List c.in-List.xs c.in-List.x) c.requires.first),
+    is_constant_of _ _ c.get-in-Equal.ensures (tail_good _ _ _ (ap out-Constant c.in-List-b-5.is ∙ outs-List c.in-List-b-5.ys c.in-List-b-5.y) c.requires.second),
+  ),
+)
 
 pub order-returns-in-Equal : goal.order-returns-in-Equal
 order-returns-in-Equal t c =
