@@ -1,0 +1,6 @@
+pub mod Bytes
+pub mod Escapes
+pub mod Lexemes
+pub mod Places
+pub mod Reading
+pub mod Utf8
