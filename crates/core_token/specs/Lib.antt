@@ -4,3 +4,4 @@ pub mod Lexemes
 pub mod Places
 pub mod Reading
 pub mod Utf8
+pub mod Values

@@ -14,6 +14,7 @@
 //   number.rt     integers and floats
 //   lexeme.rt     the token at the front of a text
 //   scan.rt       the tokens of a whole text
+//   value.rt      what tokens mean: numbers and code points
 #![tactic(auto)]
 
 mod bytes;
@@ -23,8 +24,12 @@ mod number;
 mod place;
 mod quoted;
 mod scan;
+#[cfg(test)]
+mod tests;
 mod token;
 mod utf8;
+mod value;
 
 pub use scan::tokens;
 pub use token::{Sort, Token, TokenFault, TokenKind, Tokens};
+pub use value::{character_of, code_points_of, integer_of};
