@@ -5,3 +5,4 @@ pub mod Places
 pub mod Reading
 pub mod Utf8
 pub mod Values
+pub mod Text

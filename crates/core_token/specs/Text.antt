@@ -1,0 +1,47 @@
+-- A text is white space, comments and tokens in turn: which list of tokens it has, and what its first fault is.
+use Rattle.std.specs.Prelude.{◌≡◌, ◌⊎◌, ℕ, ◌+◌, ◌<◌, List, [], ◌∷◌, length, take, drop, Option, Some, None, Result, Ok, Err}
+use Rattle.hipe_terms.specs.declared.place.Place.{Place}
+use Rattle.core_token.specs.declared.token.Sort.{Sort}
+use Rattle.core_token.specs.declared.token.Token.{Token}
+use Rattle.core_token.specs.declared.token.TokenKind.{TokenKind}
+use Rattle.core_token.specs.declared.token.TokenFault.{TokenFault}
+use Rattle.core_token.specs.declared.token.TokenFault.TheVariants.{Refused, Memory}
+use Rattle.core_token.specs.declared.lexeme.Lexeme.{Lexeme}
+use Rattle.core_token.specs.Places.{start, place_after}
+use Rattle.core_token.specs.Lexemes.{lexeme_at}
+use Rattle.core_token.specs.Reading.{blank_length}
+use Rattle.core_token.specs.Utf8.{ill_formed}
+
+-- n bytes of white space or of a comment stand at the front
+abbrev pub IsBlank : List ℕ → ℕ → Type 0
+IsBlank s n = (0 < n) × (blank_length s ≡ n)
+
+-- a token of this sort and of n bytes stands at the front
+abbrev pub IsToken : List ℕ → Sort → ℕ → Type 0
+IsToken s sort n = (0 < n) × (blank_length s ≡ 0) × (lexeme_at s ≡ Ok (record { sort = sort; length = n }))
+
+-- no token stands at the front, and this is wrong there
+abbrev pub IsFault : List ℕ → TokenKind → Type 0
+IsFault s kind = (0 < length s) × (blank_length s ≡ 0) × (lexeme_at s ≡ Err kind)
+
+-- the tokens of a text that goes on from its byte i, at the place p
+pub data HasTokens : List ℕ → ℕ → Place → List Token → Type 0 where
+  nothing : {i : ℕ} {p : Place} → HasTokens [] i p []
+  blank : {s : List ℕ} {i : ℕ} {p : Place} {ts : List Token} (n : ℕ) → IsBlank s n → HasTokens (drop n s) (i + n) (place_after p (take n s)) ts → HasTokens s i p ts
+  token : {s : List ℕ} {i : ℕ} {p : Place} {ts : List Token} (sort : Sort) (n : ℕ) → IsToken s sort n → HasTokens (drop n s) (i + n) (place_after p (take n s)) ts
+      → HasTokens s i p (record { sort = sort; at = p; start = i; end = i + n } ∷ ts)
+
+-- the first fault of a text that goes on at the place p, and the place of it
+pub data HasFault : List ℕ → Place → TokenKind → Place → Type 0 where
+  here : {s : List ℕ} {p : Place} {kind : TokenKind} → IsFault s kind → HasFault s p kind p
+  behind_blank : {s : List ℕ} {p : Place} {kind : TokenKind} {at : Place} (n : ℕ) → IsBlank s n → HasFault (drop n s) (place_after p (take n s)) kind at → HasFault s p kind at
+  behind_token : {s : List ℕ} {p : Place} {kind : TokenKind} {at : Place} (sort : Sort) (n : ℕ) → IsToken s sort n → HasFault (drop n s) (place_after p (take n s)) kind at → HasFault s p kind at
+
+-- what a text is refused for: a byte that isn't UTF-8, and else the first fault of its tokens
+abbrev pub IsRefused : List ℕ → TokenKind → Place → Type 0
+IsRefused s kind at = (kind ≡ TokenKind.Token) × (ill_formed s ≡ Some at) ⊎ (ill_formed s ≡ None) × HasFault s start kind at
+
+abbrev pub AnswersFault : List ℕ → Result (List Token) TokenFault → Type 0
+AnswersFault s (Ok ts) = Unit {0}
+AnswersFault s (Err (Refused kind at)) = IsRefused s kind at
+AnswersFault s (Err Memory) = Unit {0}
