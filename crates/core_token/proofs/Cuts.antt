@@ -1,5 +1,5 @@
 -- What is read of a text is what the text has.
-use Rattle.std.proofs.Common.{◌≡◌, ℕ, zero, suc, ◌+◌, ◌-◌, ◌<◌, Bool, true, false, cond, ◌||◌, ◌&&◌, inl, inr, nat_eq, List, [], ◌∷◌, ◌++◌, length, take, drop, Option, Some, None, Result, Ok, Err, IfOk, refl, ap, sym, ◌∙◌, subst, append_assoc, arith}
+use Rattle.std.proofs.Common.{◌≡◌, ℕ, zero, suc, ◌+◌, ◌-◌, ◌<◌, Bool, true, false, cond, ◌||◌, ◌&&◌, inr, nat_eq, List, [], ◌∷◌, ◌++◌, take, drop, Option, Some, None, Result, Ok, Err, IfOk, refl, ap, sym, ◌∙◌, subst, append_assoc, arith}
 use Rattle.std.proofs.lemmas.Bool.Decides.{nat_tests}
 use Rattle.std.proofs.lemmas.List.{append-nil}
 use Rattle.hipe_terms.specs.declared.place.Place.{Place}
@@ -20,7 +20,8 @@ use Rattle.core_token.specs.declared.quoted.Quoted.{Quoted}
 use Rattle.core_token.specs.declared.escape.Escape.{Escape}
 use Rattle.std.specs.List.{prefix_len}
 use Rattle.core_token.specs.Reading.{Reading, blank_length, passed, with_token, token_step, scan_step, scan_end, scan_start, scanned, Answers}
-use Rattle.core_token.specs.Text.{IsBlank, IsToken, IsFault, HasTokens, nothing, blank, token, HasFault, here, behind_blank, behind_token, AnswersFault}
+use Rattle.core_token.proofs.Spelled.{spelled}
+use Rattle.core_token.specs.Text.{IsBlank, IsToken, HasTokens, nothing, blank, token, HasFault, here, behind_blank, behind_token, AnswersFault}
 
 -- a token has a byte at least
 number_positive : (k most : ℕ) (s : List ℕ) (l : Lexeme) → number_at k most s ≡ Ok l → 0 < l.length
@@ -100,7 +101,7 @@ token_case : (c : ℕ) (t : List ℕ) (b : Scan) (f : Result Lexeme TokenKind) �
 token_case c t b (Ok l) none is next =
     let some = lexeme_positive (c ∷ t) l is in
     let u = passed (c ∷ t) l.length (with_token l b) in
-    gives_token (c ∷ t) b l _ (some, none, is) (subst (λ s. Gives s u.offset u.at u.tokens (walk scan_step scan_end t (l.length - 1) u)) (behind c t l.length some) (next l.length u refl))
+    gives_token (c ∷ t) b l _ (some, none, is, spelled (c ∷ t) l is) (subst (λ s. Gives s u.offset u.at u.tokens (walk scan_step scan_end t (l.length - 1) u)) (behind c t l.length some) (next l.length u refl))
 token_case c t b (Err kind) none is next = here (omega arith, none, is)
 
 blank_case : (c : ℕ) (t : List ℕ) (b : Scan) (n : ℕ) → 0 < n → blank_length (c ∷ t) ≡ n → StepGives c t b (Ok (n, passed (c ∷ t) n b))

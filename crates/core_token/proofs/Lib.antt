@@ -1,4 +1,5 @@
 pub mod Cuts
 pub mod Numbers
+pub mod Spelled
 pub mod Steps
 pub mod Walks

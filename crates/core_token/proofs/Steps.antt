@@ -1,5 +1,5 @@
 -- Steps of going through a text.
-use Rattle.std.proofs.Common.{◌≡◌, ℕ, ◌+◌, ◌<◌, Bool, true, false, cond, nat_eq, List, ◌∷◌, length, take, drop, Option, Some, None, Result, Ok, Err, refl, ap, sym, ◌∙◌, arith}
+use Rattle.std.proofs.Common.{◌≡◌, ℕ, ◌+◌, ◌<◌, true, false, cond, nat_eq, List, length, drop, Option, Some, Result, Ok, Err, ap, sym, ◌∙◌, arith}
 use Rattle.std.specs.Prelude.{slice_index}
 use Rattle.std.proofs.lemmas.Bool.Decides.{nat_tests}
 use Rattle.core_token.specs.declared.escape.Escape.{Escape}
@@ -12,7 +12,7 @@ use Rattle.core_token.specs.Escapes.{escape_at}
 use Rattle.core_token.specs.Utf8.{walk}
 use Rattle.core_token.specs.Lexemes.{longer, escaped, quoted_step}
 use Rattle.core_token.specs.Reading.{scan_step, scan_end, scan_start, scanned, Answers, AnswersStep}
-use Rattle.core_token.proofs.Walks.{walk_on, walk_stop}
+use Rattle.core_token.proofs.Walks.{walk_stop}
 
 -- an escape between quotes
 pub escape_step : (quote : ℕ) (s : List ℕ) (b : Quoted) (e : Escape) → (slice_index s 0 ≡ quote → ⊥) → slice_index s 0 ≡ 92 → escape_at (drop 1 s) ≡ Some e

@@ -1,5 +1,5 @@
 -- The token at the front of a text: what it is and how many bytes it has, or why there is none.
-use Rattle.std.specs.Prelude.{ℕ, zero, suc, ◌+◌, ◌-◌, ◌*◌, ◌^◌, Bool, true, false, ◌||◌, ◌&&◌, ◌==◌, nat_eq, nat_le, nat_lt, if◌then◌else◌, List, [], ◌∷◌, length, take, drop, slice_index, codes, Option, Some, None, Result, Ok, Err}
+use Rattle.std.specs.Prelude.{ℕ, ◌+◌, ◌-◌, ◌^◌, Bool, false, ◌||◌, ◌&&◌, ◌==◌, nat_eq, nat_le, nat_lt, if◌then◌else◌, List, [], ◌∷◌, take, drop, slice_index, codes, Option, Some, None, Result, Ok, Err}
 use Rattle.std.specs.List.{prefix_len}
 use Rattle.std.specs.Cmp.Lexicographic.{pointwise}
 use Rattle.core_token.specs.declared.token.Sort.{Sort}
@@ -9,7 +9,7 @@ use Rattle.core_token.specs.declared.token.TokenKind.TheVariants.{Token, WideInt
 use Rattle.core_token.specs.declared.quoted.Quoted.{Quoted}
 use Rattle.core_token.specs.declared.escape.Escape.{Escape}
 use Rattle.core_token.specs.declared.lexeme.Lexeme.{Lexeme}
-use Rattle.core_token.specs.Bytes.{is_from, is_digit, is_lower, is_upper, is_word_byte, is_continuation, begins, number_from}
+use Rattle.core_token.specs.Bytes.{is_digit, is_lower, is_upper, is_word_byte, is_continuation, begins, number_from}
 use Rattle.core_token.specs.Escapes.{escape_at}
 use Rattle.core_token.specs.Utf8.{walk}
 

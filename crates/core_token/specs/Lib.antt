@@ -5,4 +5,5 @@ pub mod Places
 pub mod Reading
 pub mod Utf8
 pub mod Values
+pub mod Spelling
 pub mod Text

@@ -1,5 +1,5 @@
 -- Places: a line ends behind each line feed, and each other code point is one column.
-use Rattle.std.specs.Prelude.{ℕ, ◌+◌, ◌==◌, if◌then◌else◌, List, [], ◌∷◌, take}
+use Rattle.std.specs.Prelude.{ℕ, ◌+◌, ◌==◌, if◌then◌else◌, List, [], ◌∷◌}
 use Rattle.hipe_terms.specs.declared.place.Place.{Place}
 use Rattle.core_token.specs.Bytes.{is_continuation}
 

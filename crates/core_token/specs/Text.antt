@@ -1,14 +1,14 @@
 -- A text is white space, comments and tokens in turn: which list of tokens it has, and what its first fault is.
-use Rattle.std.specs.Prelude.{◌≡◌, ◌⊎◌, ℕ, ◌+◌, ◌<◌, List, [], ◌∷◌, length, take, drop, Option, Some, None, Result, Ok, Err}
+use Rattle.std.specs.Prelude.{◌≡◌, ◌⊎◌, ℕ, ◌+◌, ◌<◌, List, [], ◌∷◌, length, take, drop, Some, None, Result, Ok, Err}
 use Rattle.hipe_terms.specs.declared.place.Place.{Place}
 use Rattle.core_token.specs.declared.token.Sort.{Sort}
 use Rattle.core_token.specs.declared.token.Token.{Token}
 use Rattle.core_token.specs.declared.token.TokenKind.{TokenKind}
 use Rattle.core_token.specs.declared.token.TokenFault.{TokenFault}
 use Rattle.core_token.specs.declared.token.TokenFault.TheVariants.{Refused, Memory}
-use Rattle.core_token.specs.declared.lexeme.Lexeme.{Lexeme}
 use Rattle.core_token.specs.Places.{start, place_after}
 use Rattle.core_token.specs.Lexemes.{lexeme_at}
+use Rattle.core_token.specs.Spelling.{Spells}
 use Rattle.core_token.specs.Reading.{blank_length}
 use Rattle.core_token.specs.Utf8.{ill_formed}
 
@@ -16,9 +16,9 @@ use Rattle.core_token.specs.Utf8.{ill_formed}
 abbrev pub IsBlank : List ℕ → ℕ → Type 0
 IsBlank s n = (0 < n) × (blank_length s ≡ n)
 
--- a token of this sort and of n bytes stands at the front
+-- a token of this sort and of n bytes stands at the front, and is spelled so
 abbrev pub IsToken : List ℕ → Sort → ℕ → Type 0
-IsToken s sort n = (0 < n) × (blank_length s ≡ 0) × (lexeme_at s ≡ Ok (record { sort = sort; length = n }))
+IsToken s sort n = (0 < n) × (blank_length s ≡ 0) × (lexeme_at s ≡ Ok (record { sort = sort; length = n })) × Spells sort (take n s) (drop n s)
 
 -- no token stands at the front, and this is wrong there
 abbrev pub IsFault : List ℕ → TokenKind → Type 0

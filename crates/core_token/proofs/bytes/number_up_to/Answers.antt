@@ -1,4 +1,4 @@
-use Rattle.std.proofs.Common.{◌≤◌, ◌*◌, ◌^◌, arith}
+use Rattle.std.proofs.Common.{arith}
 use Rattle.core_token.proofs.Numbers.{times_small}
 use Rattle.core_token.proofs.bytes.number_up_to.Goals as goal
 

@@ -1,4 +1,4 @@
-use Rattle.std.proofs.Common.{◌≡◌, ◌≤◌, ◌<◌, take, ap, sym, ◌∙◌, subst, arith}
+use Rattle.std.proofs.Common.{◌≤◌, ◌<◌, take, subst, arith}
 use Rattle.std.specs.List.{prefix_len}
 use Rattle.core_token.specs.Bytes.{is_octal, number_from}
 use Rattle.core_token.proofs.Numbers.{octal_small}

@@ -1,4 +1,4 @@
-use Rattle.std.proofs.Common.{◌≡◌, ◌+◌, ◌≤◌, drop, ap, sym, ◌∙◌, arith, length-drop, subst, Err}
+use Rattle.std.proofs.Common.{drop, ap, sym, ◌∙◌, arith, length-drop, subst, Err}
 use Rattle.core_token.specs.Utf8.{walk}
 use Rattle.core_token.specs.Reading.{scan_step, scan_end, AnswersStep}
 use Rattle.core_token.proofs.Walks.{walk_on}

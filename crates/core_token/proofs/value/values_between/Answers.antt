@@ -1,4 +1,4 @@
-use Rattle.std.proofs.Common.{◌≡◌, ◌+◌, ◌≤◌, Some, None, drop, ap, sym, ◌∙◌, arith, length-drop}
+use Rattle.std.proofs.Common.{◌≡◌, ◌+◌, Some, None, drop, ap, sym, ◌∙◌, arith, length-drop}
 use Rattle.core_token.specs.Utf8.{walk}
 use Rattle.core_token.specs.Values.{code_point_at, value_step, value_step_by, value_end, values_between}
 use Rattle.core_token.proofs.Walks.{walk_on, walk_stop}
