@@ -8,10 +8,12 @@ use crate::bytes::{front, hex_digits, number_up_to, octal_digits, rest_from};
 // The greatest Unicode scalar value.
 const GREATEST_SCALAR: u64 = 0x10_FFFF;
 
-// The code point that an escape means, and how many bytes it has behind its backslash.
+/// The code point that an escape means, and how many bytes it has behind its backslash.
 #[derive(Clone, Copy)]
 pub struct Escape {
+    /// The code point.
     pub value: u32,
+    /// The bytes behind the backslash.
     pub length: usize,
 }
 
@@ -114,7 +116,7 @@ fn hex_escape(text: &[u8]) -> Option<Escape>
     })
 }
 
-// What stands behind a backslash.
+/// What stands behind a backslash.
 #[tactic(auto, unfolding(crate::specs::Escapes::escape_at))]
 pub fn escape_at(text: &[u8]) -> Option<Escape>
     requires { length text.now < 2 ^ 32 }

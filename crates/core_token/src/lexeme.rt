@@ -20,10 +20,12 @@ const GREATEST_INTEGER: u64 = 576_460_752_303_423_487;
 
 const FARTHEST_BELOW: u64 = 576_460_752_303_423_488;
 
-// A token without its place: what it is, and how many bytes it has.
+/// A token without its place: what it is, and how many bytes it has.
 #[derive(Clone, Copy)]
 pub struct Lexeme {
+    /// What it is.
     pub sort: Sort,
+    /// How many bytes it has.
     pub length: usize,
 }
 
@@ -207,7 +209,7 @@ fn unquoted_at(text: &[u8]) -> Result<Lexeme, TokenKind>
     }
 }
 
-// The token at the front of a text.
+/// The token at the front of a text.
 #[tactic(auto, unfolding(crate::specs::Lexemes::lexeme_at))]
 pub fn lexeme_at(text: &[u8]) -> Result<Lexeme, TokenKind>
     requires { length text.now < 2 ^ 32 }

@@ -10,6 +10,7 @@ use crate::token::{Sort, TokenKind};
 // The base of decimal digits.
 const TEN: u64 = 10;
 
+/// The sign of a number.
 pub fn is_sign_byte(b: u8) -> bool
     ensures { result ≡ is_sign_byte b }
 {
@@ -60,7 +61,7 @@ fn fraction_length(text: &[u8]) -> usize
     }
 }
 
-// An integer of at most `most` or a float, whose digits stand at the front, behind a sign of so many bytes.
+/// An integer of at most `most` or a float, whose digits stand at the front, behind a sign of so many bytes.
 #[tactic(auto, unfolding(crate::specs::Lexemes::number_at))]
 pub fn number_at(sign: usize, most: u64, text: &[u8]) -> Result<Lexeme, TokenKind>
     requires some { 0 < length text.now }

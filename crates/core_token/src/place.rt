@@ -6,14 +6,14 @@ ghost use Rattle.core_token.specs.Places.{start, moved, place_after};
 use crate::bytes::is_continuation;
 use hipe_terms::Place;
 
-// The place of the first byte of a text.
+/// The place of the first byte of a text.
 pub fn start() -> Place
     ensures { result ≡ start }
 {
     Place { line: 1, col: 1 }
 }
 
-// The place behind a byte.
+/// The place behind a byte.
 pub fn moved(at: Place, b: u8) -> Place
     requires line { at.line + 1 < 2 ^ 64 }
     requires column { at.col + 1 < 2 ^ 64 }
@@ -36,7 +36,7 @@ pub fn moved(at: Place, b: u8) -> Place
     }
 }
 
-// The place behind some bytes.
+/// The place behind some bytes.
 pub fn place_after(at: Place, bytes: &[u8]) -> Place
     requires lines { at.line + length bytes.now < 2 ^ 63 }
     requires columns { at.col + length bytes.now < 2 ^ 63 }

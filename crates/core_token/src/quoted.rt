@@ -6,14 +6,16 @@ ghost use Rattle.core_token.specs.Lexemes.{quoted_at};
 use crate::bytes::{is_continuation, rest_from};
 use crate::escape::escape_at;
 
-// The bytes up to a closing quote and with it, and the code points that stand before it.
+/// The bytes up to a closing quote and with it, and the code points that stand before it.
 #[derive(Clone, Copy)]
 pub struct Quoted {
+    /// The bytes up to the closing quote, with it.
     pub length: usize,
+    /// The code points before the closing quote.
     pub code_points: usize,
 }
 
-// What stands behind an opening quote, if there is a closing one and each escape is good.
+/// What stands behind an opening quote, if there is a closing one and each escape is good.
 #[tactic(auto, using(crate::proofs::Walks::walks), unfolding(crate::specs::Lexemes::quoted_at))]
 pub fn quoted_at(quote: u8, text: &[u8]) -> Option<Quoted>
     requires { length text.now < 2 ^ 32 }

@@ -14,11 +14,14 @@ use crate::utf8::ill_formed;
 use hipe_terms::Place;
 use std::alloc::Global;
 
-// What has been read of a text: its tokens up to a byte, and the place of that byte.
+/// What has been read of a text: its tokens up to a byte, and the place of that byte.
 #[derive(Drop)]
 pub struct Scan {
+    /// The tokens that were read.
     pub tokens: Tokens,
+    /// The place of the next byte.
     pub at: Place,
+    /// How many bytes were read.
     pub offset: usize,
 }
 

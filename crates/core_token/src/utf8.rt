@@ -7,11 +7,14 @@ use crate::bytes::{continuations, rest_from};
 use crate::place::{moved, start};
 use hipe_terms::Place;
 
-// What follows a first byte: a second byte within limits, and more bytes from 0x80 to 0xBF.
+/// What follows a first byte: a second byte within limits, and more bytes from 0x80 to 0xBF.
 #[derive(Clone, Copy)]
 pub struct Sequence {
+    /// The least second byte.
     pub low: u8,
+    /// The greatest second byte.
     pub high: u8,
+    /// How many bytes from 0x80 to 0xBF come behind the second.
     pub more: usize,
 }
 
@@ -65,7 +68,7 @@ fn character_length(text: &[u8]) -> Option<usize>
     }
 }
 
-// The place of the first byte that isn't UTF-8.
+/// The place of the first byte that isn't UTF-8.
 #[tactic(auto, using(crate::proofs::Walks::walks), unfolding(crate::specs::Utf8::ill_formed))]
 pub fn ill_formed(text: &[u8]) -> Option<Place>
     requires { length text.now < 2 ^ 32 }

@@ -12,10 +12,12 @@ const GREATEST_INTEGER: u64 = 576_460_752_303_423_487;
 
 const FARTHEST_BELOW: u64 = 576_460_752_303_423_488;
 
-// A code point, and how many bytes it has in the text.
+/// A code point, and how many bytes it has in the text.
 #[derive(Clone, Copy)]
 pub struct CodePoint {
+    /// The code point.
     pub value: u32,
+    /// How many bytes spell it.
     pub length: usize,
 }
 
