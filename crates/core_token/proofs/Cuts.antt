@@ -20,8 +20,9 @@ use Rattle.core_token.specs.declared.quoted.Quoted.{Quoted}
 use Rattle.core_token.specs.declared.escape.Escape.{Escape}
 use Rattle.std.specs.List.{prefix_len}
 use Rattle.core_token.specs.Reading.{Reading, blank_length, passed, with_token, token_step, scan_step, scan_end, scan_start, scanned, Answers}
+use Rattle.core_token.proofs.Characters.{well_formed}
 use Rattle.core_token.proofs.Spelled.{spelled}
-use Rattle.core_token.specs.Text.{IsBlank, IsToken, HasTokens, nothing, blank, token, HasFault, here, behind_blank, behind_token, AnswersFault}
+use Rattle.core_token.specs.Text.{IsUtf8, IsBlank, IsToken, HasTokens, nothing, blank, token, HasFault, here, behind_blank, behind_token, AnswersFault}
 
 -- a token has a byte at least
 number_positive : (k most : ℕ) (s : List ℕ) (l : Lexeme) → number_at k most s ≡ Ok l → 0 < l.length
@@ -131,7 +132,11 @@ pub tokens_held : (s : List ℕ) (r : Result (List Token) TokenFault) → Answer
 tokens_held s (Ok ts) h = let g : Gives s 0 start [] (Ok ts) = subst (Gives s 0 start []) h (scanned_gives s) in subst (HasTokens s 0 start) (sym g.1) g.2
 tokens_held s (Err f) h = tt
 
-pub fault_held : (s : List ℕ) (r : Result (List Token) TokenFault) → ill_formed s ≡ None → Answers (scanned s) r → AnswersFault s r
+pub fault_held : (s : List ℕ) (r : Result (List Token) TokenFault) → None ≡ ill_formed s → Answers (scanned s) r → AnswersFault s r
 fault_held s (Ok ts) none h = tt
-fault_held s (Err (Refused kind p)) none h = inr (none, subst (Gives s 0 start []) h (scanned_gives s))
+fault_held s (Err (Refused kind p)) none h = inr (well_formed s none, subst (Gives s 0 start []) h (scanned_gives s))
 fault_held s (Err Memory) none h = tt
+
+pub utf8_held : (s : List ℕ) (r : Result (List Token) TokenFault) → None ≡ ill_formed s → IfOk r (λ _. IsUtf8 s)
+utf8_held s (Ok ts) none = well_formed s none
+utf8_held s (Err f) none = tt

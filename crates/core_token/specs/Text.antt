@@ -1,16 +1,26 @@
 -- A text is white space, comments and tokens in turn: which list of tokens it has, and what its first fault is.
-use Rattle.std.specs.Prelude.{◌≡◌, ◌⊎◌, ℕ, ◌+◌, ◌<◌, List, [], ◌∷◌, length, take, drop, Some, None, Result, Ok, Err}
+use Rattle.std.specs.Prelude.{◌≡◌, ◌⊎◌, ℕ, ◌+◌, ◌<◌, List, [], ◌∷◌, length, take, drop, slice_index, Some, None, Result, Ok, Err}
 use Rattle.hipe_terms.specs.declared.place.Place.{Place}
 use Rattle.core_token.specs.declared.token.Sort.{Sort}
 use Rattle.core_token.specs.declared.token.Token.{Token}
 use Rattle.core_token.specs.declared.token.TokenKind.{TokenKind}
 use Rattle.core_token.specs.declared.token.TokenFault.{TokenFault}
 use Rattle.core_token.specs.declared.token.TokenFault.TheVariants.{Refused, Memory}
-use Rattle.core_token.specs.Places.{start, place_after}
+use Rattle.core_token.specs.Places.{start, moved, place_after}
 use Rattle.core_token.specs.Lexemes.{lexeme_at}
 use Rattle.core_token.specs.Spelling.{Spells}
 use Rattle.core_token.specs.Reading.{blank_length}
-use Rattle.core_token.specs.Utf8.{ill_formed}
+use Rattle.core_token.specs.Utf8.{character_length}
+
+-- each character of a text is well formed
+pub data IsUtf8 : List ℕ → Type 0 where
+  empty : IsUtf8 []
+  character : {s : List ℕ} (n : ℕ) → character_length s ≡ Some n → IsUtf8 (drop n s) → IsUtf8 s
+
+-- the first byte that isn't UTF-8 of a text that goes on at the place p stands at the place `at`
+pub data IsIllFormed : List ℕ → Place → Place → Type 0 where
+  at_front : {s : List ℕ} {p : Place} → 0 < length s → character_length s ≡ None → IsIllFormed s p p
+  behind_character : {s : List ℕ} {p at : Place} (n : ℕ) → character_length s ≡ Some n → IsIllFormed (drop n s) (moved p (slice_index s 0)) at → IsIllFormed s p at
 
 -- n bytes of white space or of a comment stand at the front
 abbrev pub IsBlank : List ℕ → ℕ → Type 0
@@ -39,7 +49,7 @@ pub data HasFault : List ℕ → Place → TokenKind → Place → Type 0 where
 
 -- what a text is refused for: a byte that isn't UTF-8, and else the first fault of its tokens
 abbrev pub IsRefused : List ℕ → TokenKind → Place → Type 0
-IsRefused s kind at = (kind ≡ TokenKind.Token) × (ill_formed s ≡ Some at) ⊎ (ill_formed s ≡ None) × HasFault s start kind at
+IsRefused s kind at = (kind ≡ TokenKind.Token) × IsIllFormed s start at ⊎ IsUtf8 s × HasFault s start kind at
 
 abbrev pub AnswersFault : List ℕ → Result (List Token) TokenFault → Type 0
 AnswersFault s (Ok ts) = Unit {0}

@@ -1,9 +1,8 @@
 // The tokens of a whole text.
 
-ghost use Rattle.std.specs.Prelude.{◌≡◌, ℕ, ◌+◌, ◌<◌, ◌≤◌, ◌^◌, [], None, length, IfOk};
+ghost use Rattle.std.specs.Prelude.{◌≡◌, ℕ, ◌+◌, ◌<◌, ◌≤◌, ◌^◌, [], length, IfOk};
 ghost use Rattle.core_token.specs.Places.{start};
-ghost use Rattle.core_token.specs.Text.{HasTokens, AnswersFault};
-ghost use Rattle.core_token.specs.Utf8.{ill_formed};
+ghost use Rattle.core_token.specs.Text.{IsUtf8, HasTokens, AnswersFault};
 ghost use Rattle.core_token.specs.Reading.{blank_length, scan_step, scan_start, scanned, read, Answers, AnswersStep};
 
 use crate::bytes::{bytes_before_line_end, front, is_space, rest_from};
@@ -107,7 +106,7 @@ fn scanned(alloc: Global, text: &[u8]) -> Result<Tokens, TokenFault>
 pub fn tokens(alloc: Global, text: &[u8]) -> Result<Tokens, TokenFault>
     requires short { length text.now < 2 ^ 32 }
     // What is read is what the text has: white space, comments and these tokens in turn.
-    ensures utf8 { IfOk result (λ _. ill_formed text.now ≡ None) }
+    ensures utf8 { IfOk result (λ _. IsUtf8 text.now) }
     ensures tokens { IfOk result (λ ts. HasTokens text.now 0 start ts) }
     // A refusal is that of the first byte that isn't UTF-8, and else of the first fault.
     ensures fault { AnswersFault text.now result }
