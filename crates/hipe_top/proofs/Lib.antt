@@ -7,3 +7,4 @@ pub mod Outcomes
 pub mod Running
 pub mod Simulation
 pub mod Slots
+pub mod Unique

@@ -48,6 +48,7 @@ words_answered words left written f g status err bad (whole is line) itself =
       on_out = untouched_gains (stream written written g g) (keeps_same written);
       on_err = line;
       was_read = λ good. absurd (bad good);
+      left_unread = λ _. keeps_same left;
     }
 words_answered words left written f g status err bad (broken is faulted front) itself = absurd (itself.1 is)
 
@@ -93,6 +94,7 @@ module _ (words : List (List ℕ)) (good : IsRun words) (source out : Stream) wh
         on_out = gained;
         on_err = untouched_gains err still;
         was_read = λ _. was;
+        left_unread = λ bad. absurd (bad good);
       }
   value_of_sum err bytes e still had was text (not_written ends faulted front) u is = absurd (cc)
   value_of_sum err bytes e still had was text (no_memory untouched) u is = absurd (cc)
@@ -118,6 +120,7 @@ module _ (words : List (List ℕ)) (good : IsRun words) (source out : Stream) wh
           on_out = untouched_gains out untouched;
           on_err = line;
           was_read = λ _. was;
+          left_unread = λ bad. absurd (bad good);
         }
     refusal_answered stop bytes had was expected untouched (broken is faulted front) itself seven = absurd (itself (is ∙ seven))
 

@@ -1,5 +1,5 @@
 -- What the program answers where memory is found and no read or write fails.
-use Rattle.std.specs.Prelude.{ℕ, ◌<◌, ◌≤◌, List, [], length}
+use Rattle.std.specs.Prelude.{◌≡◌, ℕ, ◌<◌, ◌≤◌, List, [], length}
 use Rattle.core_reader.specs.declared.sum.Sum.{Sum}
 use Rattle.core_reader.specs.Sums.{value}
 use Rattle.core_reader.specs.Text.{IsSumText}
@@ -29,3 +29,7 @@ pub data Expected (words : List (List ℕ)) (bytes : List ℕ) : Answer → Type
   too_long : IsRun words → TEXT_LIMIT < length bytes → Expected words bytes (refused TooLong)
   no_sum : IsRun words → length bytes ≤ TEXT_LIMIT → ((e : Sum) → IsSumText bytes e → ⊥) → Expected words bytes (refused NotYet)
   sum : (e : Sum) → IsRun words → IsSumText bytes e → EndsWith (code_for e) (value e) → Expected words bytes (answered (value_line (value e)))
+
+-- words and bytes have one answer
+abbrev pub HaveOneAnswer : Type 0
+HaveOneAnswer = (words : List (List ℕ)) (bytes : List ℕ) (a b : Answer) → Expected words bytes a → Expected words bytes b → a ≡ b

@@ -75,7 +75,7 @@ pub data RanText (source out : Stream) : Result (Unit {0}) Stop → Type 0 where
 abbrev pub EndedByItself : ℕ → Type 0
 EndedByItself status = (status ≢ 6) × (status ≢ 7) × (status ≢ 8)
 
--- it answered what is expected, and read all of its input where the words are good
+-- it answered what is expected; it read all of its input where the words are good, and none where they aren't
 pub record Answered (words : List (List ℕ)) (source out err : Stream) (status : ℕ) : Type 0 where
   pub bytes : List ℕ
   pub answer : Answer
@@ -85,6 +85,7 @@ pub record Answered (words : List (List ℕ)) (source out err : Stream) (status 
   pub on_out : Gained out answer.out
   pub on_err : Gained err answer.err
   pub was_read : IsRun words → WasRead source bytes
+  pub left_unread : ¬ IsRun words → Keeps source.before source.after
 
 -- want of memory
 pub record RanOutOfMemory (words : List (List ℕ)) (source out err : Stream) : Type 0 where

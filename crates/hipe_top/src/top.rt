@@ -1,6 +1,7 @@
 // The program as one call, over any source and any sinks.
 ghost use Rattle.std.specs.Prelude.{◌≡◌, IfSome, map};
 ghost use Rattle.std.specs.String.{string_bytes};
+ghost use Rattle.hipe_top.specs.Answers.{HaveOneAnswer};
 ghost use Rattle.hipe_top.specs.Outcome.{EndedByItself, Answered, RanOutOfMemory, ReadFailed, WriteFailed, Accepts, stream};
 
 use super::run::run_text;
@@ -8,6 +9,12 @@ use super::stop::{Stop, report};
 use super::words::is_run;
 use hipe_edge::{Sink, Source};
 use std::alloc::Global;
+
+/// The words and the bytes of an input have one answer. So what stands on out after status 0 is the one line that the
+/// definitions give.
+pub fn one_answer()
+    ensures { HaveOneAnswer }
+{}
 
 /// Does what the words say with the source's text, and answers the exit status. It takes no lock and always returns.
 ///

@@ -1,0 +1,15 @@
+pub mod Lists
+pub mod Distinct
+pub mod Joins
+pub mod Sweeps
+pub mod Queues
+pub mod Starts
+pub mod TicketLists
+pub mod Sound
+pub mod Flags
+pub mod TicketViews
+pub mod Outputs
+pub mod Openings
+pub mod Histories
+pub mod Calls
+pub mod Theorems

@@ -1,0 +1,68 @@
+// Atoms: names that stand for themselves.
+
+ghost use Rattle.std.specs.Prelude.{◌≡◌, ◌≤◌, ◌<◌, length, chars, string_bytes, encode_utf8_all, MatchResult, IfOk};
+ghost use Rattle.std.specs.Ordering.{nat_cmp};
+ghost use Rattle.std.specs.Cmp.Lexicographic.{slice_cmp};
+
+use crate::limits::ATOM_LIMIT;
+use std::alloc::{AllocError, Global};
+use std::cmp::Ordering;
+use std::marker::Model;
+
+/// An atom: a text of at most 255 code points, which its type keeps. Contracts see it as the list of its code points.
+#[derive(Debug, Drop)]
+pub struct Atom {
+    text: String,
+}
+
+impl Model for Atom {
+    ghost use Rattle.std.specs.Prelude.{ℕ, ◌≤◌, List, length, chars, string_bytes};
+    ghost use Rattle.hipe_terms.specs.declared.limits.TheConstants.{ATOM_LIMIT};
+
+    ghost Value = { List ℕ };
+
+    ghost view = { λ a. chars (string_bytes a.text) };
+
+    ghost invariant = { λ a. length (chars (string_bytes a.text)) ≤ ATOM_LIMIT };
+}
+
+// How many code points a text has.
+fn code_points(text: &str) -> usize
+    ensures { result ≡ length (chars text.now) }
+{
+    text.chars().count()
+}
+
+impl Atom {
+    /// The atom of a text, or the text where it has more than 255 code points.
+    pub fn new(text: String) -> Result<Atom, String>
+        ensures { MatchResult result (λ a. a ≡ chars (string_bytes text)) (λ back. (back ≡ text) × (ATOM_LIMIT < length (chars (string_bytes text)))) }
+    {
+        if code_points(text.as_str()) <= ATOM_LIMIT {
+            Ok(Atom { text })
+        } else {
+            Err(text)
+        }
+    }
+
+    /// The text.
+    pub fn as_str(&self) -> &str
+        ensures { result.now ≡ encode_utf8_all self.now }
+    {
+        self.text.as_str()
+    }
+
+    /// The code points. An error where there is no memory for them.
+    pub fn code_points(&self, alloc: Global) -> Result<Vec<char>, AllocError>
+        ensures { IfOk result (λ points. points.items ≡ self.now) }
+    {
+        self.text.chars().collect(alloc)
+    }
+
+    /// The order of two atoms, by code points. It takes no memory.
+    pub fn order(&self, other: &Atom) -> Ordering
+        ensures { result ≡ slice_cmp nat_cmp self.now other.now }
+    {
+        self.text.chars().cmp(other.text.chars())
+    }
+}
