@@ -1,0 +1,3 @@
+-- What contracts say of trees.
+pub mod Nodes
+pub mod SameTree

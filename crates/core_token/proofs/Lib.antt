@@ -1,0 +1,6 @@
+pub mod Characters
+pub mod Cuts
+pub mod Numbers
+pub mod Spelled
+pub mod Steps
+pub mod Walks

@@ -1,0 +1,15 @@
+use Rattle.std.proofs.Common.{◌≡◌, ◌≤◌, ◌+◌, ◌-◌, length, drop}
+use Rattle.core_token.specs.Utf8.{walk}
+use Rattle.core_token.specs.Reading.{scan_step, scan_end, scan_start}
+use Rattle.core_token.proofs.scan.scanned.Given as goal
+
+abbrev pub invariant-loop-scan : goal.invariant-loop-scan
+invariant-loop-scan l = record {
+  rest : walk scan_step scan_end (drop l.scan.offset l.text) 0 l.scan ≡ walk scan_step scan_end l.text 0 scan_start;
+  within : l.scan.offset ≤ length l.text;
+  few_lines : l.scan.at.line ≤ l.scan.offset + 1;
+  few_columns : l.scan.at.col ≤ l.scan.offset + 1;
+}
+
+abbrev pub decreases-loop-scan : goal.decreases-loop-scan
+decreases-loop-scan l = length l.text - l.scan.offset
