@@ -1,11 +1,12 @@
--- The nodes of an expression, by what the expression is made of.
-use Rattle.std.proofs.Common.{◌≡◌, ℕ, ◌+◌, List, map, sum, length, refl, ◌∙◌}
-use Rattle.core_ast.specs.declared.pattern.Pattern.{Pattern}
+-- The plain tree that a tree shows, by what the tree is made of.
+use Rattle.std.proofs.Common.{◌≡◌, ℕ, List, map, refl, ap, ◌∙◌}
+use Rattle.hipe_terms.specs.declared.place.Place.{Place}
+use Rattle.core_ast.specs.declared.pattern.Pattern as RustPattern
 use Rattle.core_ast.specs.declared.pattern.PatNode.{PatNode, out-PatNode}
 use Rattle.core_ast.specs.declared.pattern.PatNode.TheOpen.{PatNode-F}
 use Rattle.core_ast.specs.declared.pattern.PatNode.TheFolds.{fold_out-PatNode, fold_out-Pattern, fold-PatNode, map-PatNode}
 use Rattle.core_ast.specs.declared.pattern.PatNode.TheViews as PatNodeViews
-use Rattle.core_ast.specs.declared.tree.Clause.{Clause}
+use Rattle.core_ast.specs.declared.tree.Clause as RustClause
 use Rattle.core_ast.specs.declared.tree.Expr.{Expr}
 use Rattle.core_ast.specs.declared.tree.Fun.{Fun, out-Fun}
 use Rattle.core_ast.specs.declared.tree.FunDef.{FunDef, out-FunDef}
@@ -13,91 +14,94 @@ use Rattle.core_ast.specs.declared.tree.Node.{Node, out-Node}
 use Rattle.core_ast.specs.declared.tree.Node.TheOpen.{Node-F}
 use Rattle.core_ast.specs.declared.tree.Node.TheFolds.{fold_out-Node, fold_out-Clause, fold_out-Expr, fold_out-Fun, fold_out-FunDef, fold-Node, map-Node}
 use Rattle.core_ast.specs.declared.tree.Node.TheViews.{the_lemmas}
-use Rattle.core_ast.specs.Nodes.{pattern_node_at, pattern_at, pattern_nodes, node_at, clause_at, expression_at, fun_at, definition_at, expression_nodes, clause_nodes, nodes_of, definition_nodes}
+use Rattle.core_ast.specs.Trees.{Pattern, patterns, Expression, expressions, Clause, clauses, Function, Definition, definitions, pattern_node_at, pattern_at, pattern_of, node_at, clause_at, expression_at, fun_at, definition_at, expression_of, clause_of, function_of, definition_of}
 
-abbrev pub level_pattern : PatNode-F PatNode Pattern → ℕ
-level_pattern (PatNode-F.Var x) = 1
-level_pattern (PatNode-F.Int n) = 1
-level_pattern (PatNode-F.Atom a) = 1
-level_pattern PatNode-F.Nil = 1
-level_pattern (PatNode-F.Tuple parts) = 1 + sum (map pattern_nodes parts)
-level_pattern (PatNode-F.List parts tail) = 1 + sum (map pattern_nodes parts) + pattern_nodes tail
-level_pattern (PatNode-F.Alias x part) = 1 + pattern_nodes part
+abbrev pub level_pattern : PatNode-F PatNode RustPattern.Pattern → Place → Pattern
+level_pattern (PatNode-F.Var x) p = Pattern.Variable p x
+level_pattern (PatNode-F.Int n) p = Pattern.Int p n
+level_pattern (PatNode-F.Atom a) p = Pattern.Atom p a
+level_pattern PatNode-F.Nil p = Pattern.Nil p
+level_pattern (PatNode-F.Tuple parts) p = Pattern.Tuple p (patterns (map pattern_of parts))
+level_pattern (PatNode-F.List parts tail) p = Pattern.Cons p (patterns (map pattern_of parts)) (pattern_of tail)
+level_pattern (PatNode-F.Alias x part) p = Pattern.Alias p x (pattern_of part)
 
-pattern_level : (l : PatNode-F PatNode Pattern) → pattern_node_at (map-PatNode PatNode Pattern ℕ ℕ (fold-PatNode ℕ ℕ pattern_node_at pattern_at) pattern_nodes l) ≡ level_pattern l
-unfolding pattern_nodes
-pattern_level (PatNode-F.Var x) = refl
-pattern_level (PatNode-F.Int n) = refl
-pattern_level (PatNode-F.Atom a) = refl
-pattern_level PatNode-F.Nil = refl
-pattern_level (PatNode-F.Tuple parts) = refl
-pattern_level (PatNode-F.List parts tail) = refl
-pattern_level (PatNode-F.Alias x part) = refl
+pattern_level : (l : PatNode-F PatNode RustPattern.Pattern) (p : Place) → pattern_node_at (map-PatNode PatNode RustPattern.Pattern (Place → Pattern) Pattern (fold-PatNode (Place → Pattern) Pattern pattern_node_at pattern_at) pattern_of l) p ≡ level_pattern l p
+unfolding pattern_of
+pattern_level (PatNode-F.Var x) p = refl
+pattern_level (PatNode-F.Int n) p = refl
+pattern_level (PatNode-F.Atom a) p = refl
+pattern_level PatNode-F.Nil p = refl
+pattern_level (PatNode-F.Tuple parts) p = refl
+pattern_level (PatNode-F.List parts tail) p = refl
+pattern_level (PatNode-F.Alias x part) p = refl
 
-pub pattern_nodes_are : (p : Pattern) → pattern_nodes p ≡ level_pattern (out-PatNode p.node)
-unfolding pattern_nodes
-pattern_nodes_are p = fold_out-Pattern ℕ ℕ pattern_node_at pattern_at p ∙ fold_out-PatNode ℕ ℕ pattern_node_at pattern_at p.node ∙ pattern_level (out-PatNode p.node)
+pub pattern_is : (q : RustPattern.Pattern) → pattern_of q ≡ level_pattern (out-PatNode q.node) q.at
+unfolding pattern_of
+pattern_is q = fold_out-Pattern (Place → Pattern) Pattern pattern_node_at pattern_at q ∙ ap (λ f. f q.at) (fold_out-PatNode (Place → Pattern) Pattern pattern_node_at pattern_at q.node) ∙ pattern_level (out-PatNode q.node) q.at
 
 abbrev pub Level : Type 0
-Level = Node-F Node Clause Expr Fun FunDef
+Level = Node-F Node RustClause.Clause Expr Fun FunDef
 
-abbrev pub level_nodes : Level → ℕ
-level_nodes (Node-F.Int n) = 1
-level_nodes (Node-F.Atom a) = 1
-level_nodes Node-F.Nil = 1
-level_nodes (Node-F.Var x) = 1
-level_nodes (Node-F.Name f) = 1
-level_nodes (Node-F.Tuple parts) = 1 + sum (map expression_nodes parts)
-level_nodes (Node-F.List parts tail) = 1 + sum (map expression_nodes parts) + expression_nodes tail
-level_nodes (Node-F.Values parts) = 1 + sum (map expression_nodes parts)
-level_nodes (Node-F.Let xs values body) = 1 + length xs + expression_nodes values + expression_nodes body
-level_nodes (Node-F.Case values clauses) = 1 + expression_nodes values + sum (map clause_nodes clauses)
-level_nodes (Node-F.Lambda fun) = 1 + nodes_of fun
-level_nodes (Node-F.Letrec defs body) = 1 + sum (map definition_nodes defs) + expression_nodes body
-level_nodes (Node-F.Apply fun args) = 1 + expression_nodes fun + sum (map expression_nodes args)
-level_nodes (Node-F.Call m f args) = 1 + sum (map expression_nodes args)
-level_nodes (Node-F.Primop f args) = 1 + sum (map expression_nodes args)
-level_nodes (Node-F.Try part xs body ys handler) = 1 + expression_nodes part + length xs + expression_nodes body + length ys + expression_nodes handler
-level_nodes (Node-F.Do first second) = 1 + expression_nodes first + expression_nodes second
-level_nodes (Node-F.Catch part) = 1 + expression_nodes part
+abbrev pub level : Level → Place → Expression
+level (Node-F.Int n) p = Expression.Int p n
+level (Node-F.Atom a) p = Expression.Atom p a
+level Node-F.Nil p = Expression.Nil p
+level (Node-F.Var x) p = Expression.Variable p x
+level (Node-F.Name f) p = Expression.Name p f
+level (Node-F.Tuple parts) p = Expression.Tuple p (expressions (map expression_of parts))
+level (Node-F.List parts tail) p = Expression.Cons p (expressions (map expression_of parts)) (expression_of tail)
+level (Node-F.Values parts) p = Expression.Values p (expressions (map expression_of parts))
+level (Node-F.Let xs values body) p = Expression.Let p xs (expression_of values) (expression_of body)
+level (Node-F.Case values cs) p = Expression.Case p (expression_of values) (clauses (map clause_of cs))
+level (Node-F.Lambda f) p = Expression.Lambda p (function_of f).at (function_of f).parameters (function_of f).body
+level (Node-F.Letrec ds body) p = Expression.Letrec p (definitions (map definition_of ds)) (expression_of body)
+level (Node-F.Apply f args) p = Expression.Apply p (expression_of f) (expressions (map expression_of args))
+level (Node-F.Call m f args) p = Expression.Call p m f (expressions (map expression_of args))
+level (Node-F.Primop f args) p = Expression.Primop p f (expressions (map expression_of args))
+level (Node-F.Try part xs body ys handler) p = Expression.Try p (expression_of part) xs (expression_of body) ys (expression_of handler)
+level (Node-F.Do first second) p = Expression.Do p (expression_of first) (expression_of second)
+level (Node-F.Catch part) p = Expression.Catch p (expression_of part)
 
-node_level : (l : Level) → node_at (map-Node Node Clause Expr Fun FunDef ℕ ℕ ℕ ℕ ℕ (fold-Node ℕ ℕ ℕ ℕ ℕ node_at clause_at expression_at fun_at definition_at) clause_nodes expression_nodes nodes_of definition_nodes l) ≡ level_nodes l
-unfolding expression_nodes clause_nodes nodes_of definition_nodes
-node_level (Node-F.Int n) = refl
-node_level (Node-F.Atom a) = refl
-node_level Node-F.Nil = refl
-node_level (Node-F.Var x) = refl
-node_level (Node-F.Name f) = refl
-node_level (Node-F.Tuple parts) = refl
-node_level (Node-F.List parts tail) = refl
-node_level (Node-F.Values parts) = refl
-node_level (Node-F.Let xs values body) = refl
-node_level (Node-F.Case values clauses) = refl
-node_level (Node-F.Lambda fun) = refl
-node_level (Node-F.Letrec defs body) = refl
-node_level (Node-F.Apply fun args) = refl
-node_level (Node-F.Call m f args) = refl
-node_level (Node-F.Primop f args) = refl
-node_level (Node-F.Try part xs body ys handler) = refl
-node_level (Node-F.Do first second) = refl
-node_level (Node-F.Catch part) = refl
+abbrev Plain : Type 0
+Plain = Place → Expression
 
-pub expression_nodes_are : (e : Expr) → expression_nodes e ≡ level_nodes (out-Node e.node)
-unfolding expression_nodes clause_nodes nodes_of definition_nodes
-expression_nodes_are e = fold_out-Expr ℕ ℕ ℕ ℕ ℕ node_at clause_at expression_at fun_at definition_at e ∙ fold_out-Node ℕ ℕ ℕ ℕ ℕ node_at clause_at expression_at fun_at definition_at e.node ∙ node_level (out-Node e.node)
+node_level : (l : Level) (p : Place) → node_at (map-Node Node RustClause.Clause Expr Fun FunDef Plain Clause Expression Function Definition (fold-Node Plain Clause Expression Function Definition node_at clause_at expression_at fun_at definition_at) clause_of expression_of function_of definition_of l) p ≡ level l p
+unfolding expression_of clause_of function_of definition_of
+node_level (Node-F.Int n) p = refl
+node_level (Node-F.Atom a) p = refl
+node_level Node-F.Nil p = refl
+node_level (Node-F.Var x) p = refl
+node_level (Node-F.Name f) p = refl
+node_level (Node-F.Tuple parts) p = refl
+node_level (Node-F.List parts tail) p = refl
+node_level (Node-F.Values parts) p = refl
+node_level (Node-F.Let xs values body) p = refl
+node_level (Node-F.Case values cs) p = refl
+node_level (Node-F.Lambda f) p = refl
+node_level (Node-F.Letrec ds body) p = refl
+node_level (Node-F.Apply f args) p = refl
+node_level (Node-F.Call m f args) p = refl
+node_level (Node-F.Primop f args) p = refl
+node_level (Node-F.Try part xs body ys handler) p = refl
+node_level (Node-F.Do first second) p = refl
+node_level (Node-F.Catch part) p = refl
 
-pub clause_nodes_are : (c : Clause) → clause_nodes c ≡ 1 + sum (map pattern_nodes c.patterns) + expression_nodes c.guard + expression_nodes c.body
-unfolding expression_nodes clause_nodes
-clause_nodes_are c = fold_out-Clause ℕ ℕ ℕ ℕ ℕ node_at clause_at expression_at fun_at definition_at c
+pub expression_is : (e : Expr) → expression_of e ≡ level (out-Node e.node) e.at
+unfolding expression_of clause_of function_of definition_of
+expression_is e = fold_out-Expr Plain Clause Expression Function Definition node_at clause_at expression_at fun_at definition_at e ∙ ap (λ f. f e.at) (fold_out-Node Plain Clause Expression Function Definition node_at clause_at expression_at fun_at definition_at e.node) ∙ node_level (out-Node e.node) e.at
 
-pub nodes_are : (f : Fun) → nodes_of f ≡ expression_nodes (out-Fun f).body
-unfolding expression_nodes nodes_of
-nodes_are f = fold_out-Fun ℕ ℕ ℕ ℕ ℕ node_at clause_at expression_at fun_at definition_at f
+pub clause_is : (c : RustClause.Clause) → clause_of c ≡ record { patterns = patterns (map pattern_of c.patterns); guard = expression_of c.guard; body = expression_of c.body; at = c.at }
+unfolding expression_of clause_of
+clause_is c = fold_out-Clause Plain Clause Expression Function Definition node_at clause_at expression_at fun_at definition_at c
 
-pub definition_nodes_are : (d : FunDef) → definition_nodes d ≡ nodes_of (out-FunDef d).fun
-unfolding nodes_of definition_nodes
-definition_nodes_are d = fold_out-FunDef ℕ ℕ ℕ ℕ ℕ node_at clause_at expression_at fun_at definition_at d
+pub function_is : (f : Fun) → function_of f ≡ record { parameters = (out-Fun f).params; body = expression_of (out-Fun f).body; at = (out-Fun f).at }
+unfolding expression_of function_of
+function_is f = fold_out-Fun Plain Clause Expression Function Definition node_at clause_at expression_at fun_at definition_at f
 
-pub ruleset levels = (the_lemmas, expression_nodes_are, clause_nodes_are, nodes_are, definition_nodes_are)
+pub definition_is : (d : FunDef) → definition_of d ≡ record { name = (out-FunDef d).name; function = function_of (out-FunDef d).fun; at = (out-FunDef d).at }
+unfolding function_of definition_of
+definition_is d = fold_out-FunDef Plain Clause Expression Function Definition node_at clause_at expression_at fun_at definition_at d
 
-pub ruleset pattern_levels = (PatNodeViews.the_lemmas, pattern_nodes_are)
+pub ruleset levels = (the_lemmas, expression_is, clause_is, function_is, definition_is)
+
+pub ruleset pattern_levels = (PatNodeViews.the_lemmas, pattern_is)

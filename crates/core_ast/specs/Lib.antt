@@ -1,3 +1,4 @@
 -- What contracts say of trees.
+pub mod Trees
 pub mod Nodes
 pub mod SameTree

@@ -1,82 +1,61 @@
 -- The nodes of a function: its expressions, patterns and clauses, and the variables that `let` and `try` bind. Those of
 -- the funs inside it are among them. The module and the name of a `call` or `primop`, the parameters of funs and the
 -- variable of an alias are none.
-use Rattle.std.specs.Prelude.{ℕ, ◌+◌, ◌*◌, map, sum, length}
-use Rattle.core_ast.specs.declared.pattern.Pattern.{Pattern}
-use Rattle.core_ast.specs.declared.pattern.PatNode.TheOpen.{PatNode-F, Pattern-F}
-use Rattle.core_ast.specs.declared.pattern.PatNode.TheFolds.{fold-Pattern}
-use Rattle.core_ast.specs.declared.tree.Clause.{Clause}
-use Rattle.core_ast.specs.declared.tree.Expr.{Expr}
-use Rattle.core_ast.specs.declared.tree.Fun.{Fun}
-use Rattle.core_ast.specs.declared.tree.FunDef.{FunDef}
-use Rattle.core_ast.specs.declared.tree.Node.TheOpen.{Node-F, Clause-F, Expr-F, Fun-F, FunDef-F}
-use Rattle.core_ast.specs.declared.tree.Node.TheFolds.{fold-Clause, fold-Expr, fold-Fun, fold-FunDef}
+use Rattle.std.specs.Prelude.{ℕ, ◌+◌, ◌*◌, length}
+use Rattle.core_ast.specs.Trees.{Pattern, Patterns, no_pattern, and_pattern, Expression, Expressions, no_expression, and_expression, Clauses, no_clause, and_clause, Definitions, no_definition, and_definition, Clause, Function, Definition}
 
--- a pattern of this form, where each part stands for its nodes
-abbrev pub pattern_node_at : PatNode-F ℕ ℕ → ℕ
-pattern_node_at (PatNode-F.Var x) = 1
-pattern_node_at (PatNode-F.Int n) = 1
-pattern_node_at (PatNode-F.Atom a) = 1
-pattern_node_at PatNode-F.Nil = 1
-pattern_node_at (PatNode-F.Tuple parts) = 1 + sum parts
-pattern_node_at (PatNode-F.List parts tail) = 1 + sum parts + tail
-pattern_node_at (PatNode-F.Alias x part) = 1 + part
+abbrev mutual
+  pub pattern_nodes : Pattern → ℕ
+  pattern_nodes (Pattern.Variable p x) = 1
+  pattern_nodes (Pattern.Int p n) = 1
+  pattern_nodes (Pattern.Atom p a) = 1
+  pattern_nodes (Pattern.Nil p) = 1
+  pattern_nodes (Pattern.Tuple p parts) = 1 + patterns_nodes parts
+  pattern_nodes (Pattern.Cons p parts tail) = 1 + patterns_nodes parts + pattern_nodes tail
+  pattern_nodes (Pattern.Alias p x part) = 1 + pattern_nodes part
 
-abbrev pub pattern_at : Pattern-F ℕ ℕ → ℕ
-pattern_at p = p.node
+  pub patterns_nodes : Patterns → ℕ
+  patterns_nodes no_pattern = 0
+  patterns_nodes (and_pattern p ps) = pattern_nodes p + patterns_nodes ps
 
--- the nodes of a pattern
-unfoldable pub pattern_nodes : Pattern → ℕ
-pattern_nodes = fold-Pattern ℕ ℕ pattern_node_at pattern_at
+abbrev mutual
+  pub expression_nodes : Expression → ℕ
+  expression_nodes (Expression.Int p n) = 1
+  expression_nodes (Expression.Atom p a) = 1
+  expression_nodes (Expression.Nil p) = 1
+  expression_nodes (Expression.Variable p x) = 1
+  expression_nodes (Expression.Name p f) = 1
+  expression_nodes (Expression.Tuple p parts) = 1 + expressions_nodes parts
+  expression_nodes (Expression.Cons p parts tail) = 1 + expressions_nodes parts + expression_nodes tail
+  expression_nodes (Expression.Values p parts) = 1 + expressions_nodes parts
+  expression_nodes (Expression.Let p xs values body) = 1 + length xs + expression_nodes values + expression_nodes body
+  expression_nodes (Expression.Case p values cs) = 1 + expression_nodes values + clauses_nodes cs
+  expression_nodes (Expression.Lambda p q xs body) = 1 + expression_nodes body
+  expression_nodes (Expression.Letrec p ds body) = 1 + definitions_nodes ds + expression_nodes body
+  expression_nodes (Expression.Apply p f args) = 1 + expression_nodes f + expressions_nodes args
+  expression_nodes (Expression.Call p m f args) = 1 + expressions_nodes args
+  expression_nodes (Expression.Primop p f args) = 1 + expressions_nodes args
+  expression_nodes (Expression.Try p part xs body ys handler) = 1 + expression_nodes part + length xs + expression_nodes body + length ys + expression_nodes handler
+  expression_nodes (Expression.Do p first second) = 1 + expression_nodes first + expression_nodes second
+  expression_nodes (Expression.Catch p part) = 1 + expression_nodes part
 
--- an expression of this form, where each part stands for its nodes
-abbrev pub node_at : Node-F ℕ ℕ ℕ ℕ ℕ → ℕ
-node_at (Node-F.Int n) = 1
-node_at (Node-F.Atom a) = 1
-node_at Node-F.Nil = 1
-node_at (Node-F.Var x) = 1
-node_at (Node-F.Name f) = 1
-node_at (Node-F.Tuple parts) = 1 + sum parts
-node_at (Node-F.List parts tail) = 1 + sum parts + tail
-node_at (Node-F.Values parts) = 1 + sum parts
-node_at (Node-F.Let xs values body) = 1 + length xs + values + body
-node_at (Node-F.Case values clauses) = 1 + values + sum clauses
-node_at (Node-F.Lambda fun) = 1 + fun
-node_at (Node-F.Letrec defs body) = 1 + sum defs + body
-node_at (Node-F.Apply fun args) = 1 + fun + sum args
-node_at (Node-F.Call m f args) = 1 + sum args
-node_at (Node-F.Primop f args) = 1 + sum args
-node_at (Node-F.Try part xs body ys handler) = 1 + part + length xs + body + length ys + handler
-node_at (Node-F.Do first second) = 1 + first + second
-node_at (Node-F.Catch part) = 1 + part
+  pub expressions_nodes : Expressions → ℕ
+  expressions_nodes no_expression = 0
+  expressions_nodes (and_expression e es) = expression_nodes e + expressions_nodes es
 
-abbrev pub clause_at : Clause-F ℕ ℕ ℕ ℕ ℕ → ℕ
-clause_at c = 1 + sum (map pattern_nodes c.patterns) + c.guard + c.body
+  -- a clause is a node
+  pub clauses_nodes : Clauses → ℕ
+  clauses_nodes no_clause = 0
+  clauses_nodes (and_clause p ps guard body cs) = 1 + patterns_nodes ps + expression_nodes guard + expression_nodes body + clauses_nodes cs
 
-abbrev pub expression_at : Expr-F ℕ ℕ ℕ ℕ ℕ → ℕ
-expression_at e = e.node
-
-abbrev pub fun_at : Fun-F ℕ ℕ ℕ ℕ ℕ → ℕ
-fun_at f = f.body
-
-abbrev pub definition_at : FunDef-F ℕ ℕ ℕ ℕ ℕ → ℕ
-definition_at d = d.fun
-
--- the nodes of an expression
-unfoldable pub expression_nodes : Expr → ℕ
-expression_nodes = fold-Expr ℕ ℕ ℕ ℕ ℕ node_at clause_at expression_at fun_at definition_at
-
--- the nodes of a clause
-unfoldable pub clause_nodes : Clause → ℕ
-clause_nodes = fold-Clause ℕ ℕ ℕ ℕ ℕ node_at clause_at expression_at fun_at definition_at
+  -- a function of a `letrec` is none, but its body's are
+  pub definitions_nodes : Definitions → ℕ
+  definitions_nodes no_definition = 0
+  definitions_nodes (and_definition p f q xs body ds) = expression_nodes body + definitions_nodes ds
 
 -- the nodes of a function: those of its body
-unfoldable pub nodes_of : Fun → ℕ
-nodes_of = fold-Fun ℕ ℕ ℕ ℕ ℕ node_at clause_at expression_at fun_at definition_at
-
--- the nodes of a function with a name
-unfoldable pub definition_nodes : FunDef → ℕ
-definition_nodes = fold-FunDef ℕ ℕ ℕ ℕ ℕ node_at clause_at expression_at fun_at definition_at
+abbrev pub nodes_of : Function → ℕ
+nodes_of f = expression_nodes f.body
 
 -- the words of the stack that one activation of a function claims
 abbrev pub frame_of : (nodes parameters captured : ℕ) → ℕ

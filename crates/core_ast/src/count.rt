@@ -1,7 +1,8 @@
 // The nodes of a function.
 
-ghost use Rattle.std.specs.Prelude.{◌≡◌, ◌<◌, ◌^◌, sum, map};
-ghost use Rattle.core_ast.specs.Nodes.{nodes_of, expression_nodes, clause_nodes, pattern_nodes, definition_nodes};
+ghost use Rattle.std.specs.Prelude.{◌≡◌, ◌<◌, ◌^◌, map, [], ◌∷◌};
+ghost use Rattle.core_ast.specs.Trees.{pattern_of, patterns, expression_of, expressions, clause_of, clauses, function_of, definition_of, definitions};
+ghost use Rattle.core_ast.specs.Nodes.{nodes_of, pattern_nodes, patterns_nodes, expression_nodes, expressions_nodes, clauses_nodes, definitions_nodes};
 
 use crate::pattern::{PatNode, Pattern};
 use crate::tree::{Clause, Expr, Fun, FunDef, Node};
@@ -12,8 +13,8 @@ use crate::tree::{Clause, Expr, Fun, FunDef, Node};
 #[cycle(nodes)]
 #[tactic(auto, using(crate::proofs::Levels::levels))]
 pub fn nodes(f: &Fun) -> u32
-    requires { nodes_of f.now < 2 ^ 32 }
-    ensures { result ≡ nodes_of f.now }
+    requires { nodes_of (function_of f.now) < 2 ^ 32 }
+    ensures { result ≡ nodes_of (function_of f.now) }
 {
     expression(f.body.get())
 }
@@ -22,8 +23,8 @@ pub fn nodes(f: &Fun) -> u32
 #[cycle(nodes)]
 #[tactic(auto, using(crate::proofs::Levels::levels))]
 fn expression(e: &Expr) -> u32
-    requires { expression_nodes e.now < 2 ^ 32 }
-    ensures { result ≡ expression_nodes e.now }
+    requires { expression_nodes (expression_of e.now) < 2 ^ 32 }
+    ensures { result ≡ expression_nodes (expression_of e.now) }
 {
     match &e.node {
         Node::Int(_) | Node::Atom(_) | Node::Nil | Node::Var(_) | Node::Name(_) => 1,
@@ -53,8 +54,8 @@ fn expression(e: &Expr) -> u32
 #[cycle(nodes)]
 #[tactic(auto, using(crate::proofs::Levels::levels))]
 fn expressions(list: &[Expr]) -> u32
-    requires { sum (map expression_nodes list.now) < 2 ^ 32 }
-    ensures { result ≡ sum (map expression_nodes list.now) }
+    requires { expressions_nodes (expressions (map expression_of list.now)) < 2 ^ 32 }
+    ensures { result ≡ expressions_nodes (expressions (map expression_of list.now)) }
 {
     let mut count = 0;
     for e in list {
@@ -67,8 +68,8 @@ fn expressions(list: &[Expr]) -> u32
 #[cycle(nodes)]
 #[tactic(auto, using(crate::proofs::Levels::levels))]
 fn clause(c: &Clause) -> u32
-    requires { clause_nodes c.now < 2 ^ 32 }
-    ensures { result ≡ clause_nodes c.now }
+    requires { clauses_nodes (clauses (clause_of c.now ∷ [])) < 2 ^ 32 }
+    ensures { result ≡ clauses_nodes (clauses (clause_of c.now ∷ [])) }
 {
     1 + patterns(c.patterns.as_slice()) + expression(&c.guard) + expression(&c.body)
 }
@@ -77,8 +78,8 @@ fn clause(c: &Clause) -> u32
 #[cycle(nodes)]
 #[tactic(auto, using(crate::proofs::Levels::levels))]
 fn clauses(list: &[Clause]) -> u32
-    requires { sum (map clause_nodes list.now) < 2 ^ 32 }
-    ensures { result ≡ sum (map clause_nodes list.now) }
+    requires { clauses_nodes (clauses (map clause_of list.now)) < 2 ^ 32 }
+    ensures { result ≡ clauses_nodes (clauses (map clause_of list.now)) }
 {
     let mut count = 0;
     for c in list {
@@ -91,8 +92,8 @@ fn clauses(list: &[Clause]) -> u32
 #[cycle(nodes)]
 #[tactic(auto, using(crate::proofs::Levels::levels))]
 fn definition(def: &FunDef) -> u32
-    requires { definition_nodes def.now < 2 ^ 32 }
-    ensures { result ≡ definition_nodes def.now }
+    requires { nodes_of (definition_of def.now).function < 2 ^ 32 }
+    ensures { result ≡ nodes_of (definition_of def.now).function }
 {
     nodes(&def.fun)
 }
@@ -101,8 +102,8 @@ fn definition(def: &FunDef) -> u32
 #[cycle(nodes)]
 #[tactic(auto, using(crate::proofs::Levels::levels))]
 fn definitions(list: &[FunDef]) -> u32
-    requires { sum (map definition_nodes list.now) < 2 ^ 32 }
-    ensures { result ≡ sum (map definition_nodes list.now) }
+    requires { definitions_nodes (definitions (map definition_of list.now)) < 2 ^ 32 }
+    ensures { result ≡ definitions_nodes (definitions (map definition_of list.now)) }
 {
     let mut count = 0;
     for def in list {
@@ -115,8 +116,8 @@ fn definitions(list: &[FunDef]) -> u32
 #[cycle(pattern)]
 #[tactic(auto, using(crate::proofs::Levels::pattern_levels))]
 fn pattern(p: &Pattern) -> u32
-    requires { pattern_nodes p.now < 2 ^ 32 }
-    ensures { result ≡ pattern_nodes p.now }
+    requires { pattern_nodes (pattern_of p.now) < 2 ^ 32 }
+    ensures { result ≡ pattern_nodes (pattern_of p.now) }
 {
     match &p.node {
         PatNode::Var(_) | PatNode::Int(_) | PatNode::Atom(_) | PatNode::Nil => 1,
@@ -130,8 +131,8 @@ fn pattern(p: &Pattern) -> u32
 #[cycle(pattern)]
 #[tactic(auto, using(crate::proofs::Levels::pattern_levels))]
 fn patterns(list: &[Pattern]) -> u32
-    requires { sum (map pattern_nodes list.now) < 2 ^ 32 }
-    ensures { result ≡ sum (map pattern_nodes list.now) }
+    requires { patterns_nodes (patterns (map pattern_of list.now)) < 2 ^ 32 }
+    ensures { result ≡ patterns_nodes (patterns (map pattern_of list.now)) }
 {
     let mut count = 0;
     for p in list {
