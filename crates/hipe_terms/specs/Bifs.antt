@@ -1,5 +1,5 @@
 -- The names of the built-in functions of `erlang`, and how many arguments each takes.
-use Rattle.std.specs.Prelude.{ℕ, List, codes}
+use Rattle.std.specs.Prelude.{ℕ, ◌==◌, ◌&&◌, if◌then◌else◌, List, [], ◌∷◌, codes, Option, Some, None, bytes_eq}
 use Rattle.hipe_terms.specs.declared.bif.Bif.{Bif}
 use Rattle.hipe_terms.specs.declared.bif.Bif.TheVariants.{Add, Subtract, Multiply, Negate, Divide, Remainder, BitAnd, BitOr, BitXor, BitNot, ShiftLeft, ShiftRight, Equal, NotEqual, ExactlyEqual, ExactlyNotEqual, LessThan, AtMost, GreaterThan, AtLeast, And, Or, Not, IsInteger, IsNumber, IsAtom, IsBoolean, IsList, IsTuple, IsFunction, IsFunctionOfArity, Head, Tail, Length, Append, Element, SetElement, TupleSize, Error, Throw, Exit, Display}
 
@@ -90,3 +90,19 @@ bif_arity Error = 1
 bif_arity Throw = 1
 bif_arity Exit = 1
 bif_arity Display = 1
+
+-- all of them
+abbrev pub built_ins : List Bif
+built_ins =
+    Add ∷ Subtract ∷ Multiply ∷ Negate ∷ Divide ∷ Remainder ∷ BitAnd ∷ BitOr ∷ BitXor ∷ BitNot ∷ ShiftLeft ∷ ShiftRight
+    ∷ Equal ∷ NotEqual ∷ ExactlyEqual ∷ ExactlyNotEqual ∷ LessThan ∷ AtMost ∷ GreaterThan ∷ AtLeast ∷ And ∷ Or ∷ Not
+    ∷ IsInteger ∷ IsNumber ∷ IsAtom ∷ IsBoolean ∷ IsList ∷ IsTuple ∷ IsFunction ∷ IsFunctionOfArity
+    ∷ Head ∷ Tail ∷ Length ∷ Append ∷ Element ∷ SetElement ∷ TupleSize ∷ Error ∷ Throw ∷ Exit ∷ Display ∷ []
+
+abbrev pub first_named : List ℕ → ℕ → List Bif → Option Bif
+first_named f n [] = None
+first_named f n (b ∷ bs) = if bytes_eq (bif_name b) f && (bif_arity b == n) then Some b else first_named f n bs
+
+-- the built-in function of this module, name and number of arguments
+unfoldable pub built_in : (of name : List ℕ) → ℕ → Option Bif
+built_in m f n = if bytes_eq m (codes "erlang") then first_named f n built_ins else None

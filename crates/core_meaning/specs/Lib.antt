@@ -1,0 +1,6 @@
+-- What modules mean.
+pub mod Scopes
+pub mod Procedures
+pub mod Matching
+pub mod Meaning
+pub mod Source
