@@ -9,7 +9,7 @@ use Rattle.core_ast.specs.declared.pattern.Var.{Var}
 use Rattle.core_ast.specs.declared.tree.FunName.{FunName}
 use Rattle.core_ast.specs.Trees.{Pattern, Patterns, no_pattern, and_pattern, patterns, Expression, Expressions, no_expression, and_expression, expressions, Clauses, no_clause, and_clause, Clause, clauses, Definitions, Definition, Function, definitions, Module}
 use Rattle.core_meaning.specs.Procedures.{Program, program_of}
-use Rattle.core_meaning.specs.Meaning.{State, Ending, Run, ends, Limits, exported}
+use Rattle.core_meaning.specs.Meaning.{State, Ending, Run, ends, Limits, exported, builds, with_one, with_count, with_value, no_clause_for, makes_fun, caught, primop, performs, applies, calls, applies_named}
 use Rattle.core_meaning.specs.Source.{unlimited, starts, at_start}
 use Rattle.std.specs.Prelude.{Option, Some, None}
 
@@ -52,9 +52,11 @@ abbrev one : Term → Ending
 one t = Ending.values (t ∷ [])
 
 an_integer : Ends (run (main (number 42)) 0) (one (integer (pos 42))) 0 20
+unfolding builds with_one with_count with_value no_clause_for makes_fun caught primop performs applies calls applies_named built_in
 an_integer = (refl, refl, refl)
 
 a_list : Ends (run (main (Expression.Cons here (expressions (number 1 ∷ number 2 ∷ number 3 ∷ [])) (Expression.Nil here))) 0) (one (cons (integer (pos 1)) (cons (integer (pos 2)) (cons (integer (pos 3)) nil)))) 6 36
+unfolding builds with_one with_count with_value no_clause_for makes_fun caught primop performs applies calls applies_named built_in
 a_list = (refl, refl, refl)
 
 abbrev yes_guard : Expression
@@ -80,7 +82,7 @@ sum_module n = module_with (
     ∷ [])
 
 a_sum : Ends (run (sum_module 5) 20) (one (integer (pos 15))) 0 576
-unfolding built_in
+unfolding builds with_one with_count with_value no_clause_for makes_fun caught primop performs applies calls applies_named built_in
 a_sum = (refl, refl, refl)
 
 -- let F = fun (X) -> X in apply F(1,2)
@@ -88,6 +90,7 @@ abbrev wrong_arity : Module
 wrong_arity = main (Expression.Let here (var (codes "F") ∷ []) (Expression.Lambda here here (var (codes "X") ∷ []) (variable (codes "X"))) (Expression.Apply here (variable (codes "F")) (expressions (number 1 ∷ number 2 ∷ []))))
 
 bad_arity : Ends (run wrong_arity 5) (Ending.raised error (tuple (terms (atom (codes "badarity") ∷ tuple (terms (fun 1 none ∷ cons (integer (pos 1)) (cons (integer (pos 2)) nil) ∷ [])) ∷ [])))) 12 48
+unfolding builds with_one with_count with_value no_clause_for makes_fun caught primop performs applies calls applies_named built_in
 bad_arity = (refl, refl, refl)
 
 -- let N = 5 in letrec 'add'/1 = fun (X) -> X + N in apply 'add'/1(2)
@@ -95,5 +98,5 @@ abbrev a_letrec : Module
 a_letrec = main (Expression.Let here (var (codes "N") ∷ []) (number 5) (Expression.Letrec here (definitions (definition (codes "add") (codes "X" ∷ []) (call (codes "+") (variable (codes "X") ∷ variable (codes "N") ∷ [])) ∷ [])) (apply (codes "add") (number 2 ∷ []))))
 
 letrec_adds : Ends (run a_letrec 5) (one (integer (pos 7))) 0 56
-unfolding built_in
+unfolding builds with_one with_count with_value no_clause_for makes_fun caught primop performs applies calls applies_named built_in
 letrec_adds = (refl, refl, refl)

@@ -73,7 +73,7 @@ abbrev pub printing : List Term → State → State
 printing ts s = record s { printed = s.printed ++ ts }
 
 -- goes on with so many more words, where the heap has them
-abbrev pub builds : Limits → ℕ → State → (State → Run) → Run
+unfoldable pub builds : Limits → ℕ → State → (State → Run) → Run
 builds limits n s go = if passes (s.words + n) limits.heap then ends Ending.heap_full s else go (record s { words = s.words + n })
 
 -- ---- where an expression stands
@@ -139,15 +139,15 @@ abbrev pub fails : List ℕ → State → Handler → Run
 fails reason s r = r error (atom reason) s
 
 -- goes on with the only value
-abbrev pub with_one : List Term → State → (Term → State → Run) → Run
+unfoldable pub with_one : List Term → State → (Term → State → Run) → Run
 with_one (t ∷ []) s go = go t s
 with_one ts s go = ends Ending.stuck s
 
 -- goes on where there are so many values
-abbrev pub with_count : ℕ → List Term → State → Run → Run
+unfoldable pub with_count : ℕ → List Term → State → Run → Run
 with_count n ts s run = if length ts == n then run else ends Ending.stuck s
 
-abbrev pub with_value : Option Term → State → Next → Run
+unfoldable pub with_value : Option Term → State → Next → Run
 with_value None s k = ends Ending.stuck s
 with_value (Some t) s k = k (t ∷ []) s
 
@@ -168,12 +168,12 @@ is_true (atom a) = bytes_eq a (codes "true")
 is_true t = false
 
 -- no clause was chosen
-abbrev pub no_clause_for : Limits → List Term → State → Handler → Run
+unfoldable pub no_clause_for : Limits → List Term → State → Handler → Run
 no_clause_for limits (t ∷ []) s r = builds limits (tuple_words 2) s (λ s. r error (pair (atom (codes "case_clause")) t) s)
 no_clause_for limits ts s r = builds limits (tuple_words 2 + tuple_words (length ts)) s (λ s. r error (pair (atom (codes "case_clause")) (tuple (terms ts))) s)
 
 -- a fun as a value, with what it captured
-abbrev pub makes_fun : Limits → ℕ → Option (List Term) → State → Next → Run
+unfoldable pub makes_fun : Limits → ℕ → Option (List Term) → State → Next → Run
 makes_fun limits n None s k = ends Ending.stuck s
 makes_fun limits n (Some ts) s k = builds limits (length ts + 2) (worked (length ts) s) (λ s. k (fun n (terms ts) ∷ []) s)
 
@@ -182,7 +182,7 @@ makes_named limits None s k = ends Ending.stuck s
 makes_named limits (Some f) s k = makes_fun limits f.0 (Some f.1) s k
 
 -- what `catch` gives where a class is raised
-abbrev pub caught : Limits → Class → Term → State → Next → Run
+unfoldable pub caught : Limits → Class → Term → State → Next → Run
 caught limits throw t s k = k (t ∷ []) s
 caught limits exit t s k = builds limits (tuple_words 2) s (λ s. k (pair (atom (codes "EXIT")) t ∷ []) s)
 caught limits error t s k = builds limits (tuple_words 2 + tuple_words 2) s (λ s. k (pair (atom (codes "EXIT")) (pair t nil) ∷ []) s)
@@ -218,7 +218,7 @@ abbrev pub build_stacktrace : List Term → State → Next → Run
 build_stacktrace (t ∷ []) s k = k (nil ∷ []) s
 build_stacktrace ts s k = ends Ending.stuck s
 
-abbrev pub primop : List ℕ → List Term → State → Handler → Next → Run
+unfoldable pub primop : List ℕ → List Term → State → Handler → Next → Run
 primop f ts s r k =
     if bytes_eq f (codes "raise") then raise ts s r
     else if bytes_eq f (codes "match_fail") then match_fail ts s r
@@ -265,7 +265,7 @@ exported program f = if list_any (λ g. is_named f g) program.exports then numbe
 abbrev pub own_function : Program → (of name : List ℕ) → ℕ → Option ℕ
 own_function program m f n = if bytes_eq m program.name then exported program (record { name = f; arity = n }) else None
 
-abbrev pub applies_named : Calls → Option (ℕ × List Term) → List Term → ℕ → State → Handler → Next → Run
+unfoldable pub applies_named : Calls → Option (ℕ × List Term) → List Term → ℕ → State → Handler → Next → Run
 applies_named call None ts d s r k = ends Ending.stuck s
 applies_named call (Some f) ts d s r k = call f.0 f.1 ts d s r k
 
@@ -274,12 +274,12 @@ abbrev pub comes_to : End → State → Handler → Next → Run
 comes_to (End.value t) s r k = k (t ∷ []) s
 comes_to (End.raised class reason) s r k = r class reason s
 
-abbrev pub performs : Limits → Outcome → State → Handler → Next → Run
+unfoldable pub performs : Limits → Outcome → State → Handler → Next → Run
 performs limits o s r k = builds limits o.words (printing o.printed s) (λ s. comes_to o.end s r k)
 
 module _ (program : Program) (limits : Limits) where
   -- a value is applied
-  abbrev pub applies : Calls → Term → List Term → ℕ → State → Handler → Next → Run
+  unfoldable pub applies : Calls → Term → List Term → ℕ → State → Handler → Next → Run
   applies call (fun n captured) ts d s r k =
       if arity_of program n == length ts then call n (listed captured) ts d s r k
       else builds limits (tuple_words 2 + tuple_words 2 + list_words (length ts)) s (λ s. r error (pair (atom (codes "badarity")) (pair (fun n captured) (cells ts nil))) s)
@@ -290,7 +290,7 @@ module _ (program : Program) (limits : Limits) where
   calls_own call None ts d s r k = fails (codes "undef") s r
 
   -- a function of a module is called: the built-in functions are asked first, then the module's own
-  abbrev pub calls : Calls → (of name : List ℕ) → List Term → ℕ → State → Handler → Next → Run
+  unfoldable pub calls : Calls → (of name : List ℕ) → List Term → ℕ → State → Handler → Next → Run
   calls call m f ts d s r k =
       elim (built_in m f (length ts)) [ Some b ↦ performs limits (bif_outcome (arity_of program) b ts) s r k | None ↦ calls_own call (own_function program m f (length ts)) ts d s r k ]
 
