@@ -106,27 +106,27 @@ pub count_grows : (n : ℕ) (ts : List Term) (s : State) (x : Run) → Grown s x
 unfolding with_count
 count_grows n ts s x g = cond_grows (nat_eq (length ts) n) s x (ends Ending.stuck s) g (grown_refl _ s)
 
-value_grows : (o : Option Term) (s : State) (k : Next) → NextGrows k → Grown s (with_value o s k)
+pub value_grows : (o : Option Term) (s : State) (k : Next) → NextGrows k → Grown s (with_value o s k)
 unfolding with_value
 value_grows None s k g = grown_refl _ s
 value_grows (Some t) s k g = g (t ∷ []) s
 
-no_clause_grows : (limits : Limits) (ts : List Term) (s : State) (r : Handler) → HandlerGrows r → Grown s (no_clause_for limits ts s r)
+pub no_clause_grows : (limits : Limits) (ts : List Term) (s : State) (r : Handler) → HandlerGrows r → Grown s (no_clause_for limits ts s r)
 unfolding no_clause_for
 no_clause_grows limits [] s r g = builds_grow limits _ s _ (λ s. g error _ s)
 no_clause_grows limits (t ∷ []) s r g = builds_grow limits _ s _ (λ s. g error _ s)
 no_clause_grows limits (t ∷ u ∷ ts) s r g = builds_grow limits _ s _ (λ s. g error _ s)
 
-fun_grows : (limits : Limits) (n : ℕ) (o : Option (List Term)) (s : State) (k : Next) → NextGrows k → Grown s (makes_fun limits n o s k)
+pub fun_grows : (limits : Limits) (n : ℕ) (o : Option (List Term)) (s : State) (k : Next) → NextGrows k → Grown s (makes_fun limits n o s k)
 unfolding makes_fun
 fun_grows limits n None s k g = grown_refl _ s
 fun_grows limits n (Some ts) s k g = grown_then (worked_later (length ts) s) (builds_grow limits (length ts + 2) (worked (length ts) s) (λ s. k (fun n (terms ts) ∷ []) s) (λ s. g (fun n (terms ts) ∷ []) s))
 
-named_grows : (limits : Limits) (o : Option (ℕ × List Term)) (s : State) (k : Next) → NextGrows k → Grown s (makes_named limits o s k)
+pub named_grows : (limits : Limits) (o : Option (ℕ × List Term)) (s : State) (k : Next) → NextGrows k → Grown s (makes_named limits o s k)
 named_grows limits None s k g = grown_refl _ s
 named_grows limits (Some f) s k g = fun_grows limits f.0 (Some f.1) s k g
 
-caught_grows : (limits : Limits) (class : Class) (t : Term) (s : State) (k : Next) → NextGrows k → Grown s (caught limits class t s k)
+pub caught_grows : (limits : Limits) (class : Class) (t : Term) (s : State) (k : Next) → NextGrows k → Grown s (caught limits class t s k)
 unfolding caught
 caught_grows limits error t s k g = builds_grow limits _ s _ (λ s. g _ s)
 caught_grows limits exit t s k g = builds_grow limits _ s _ (λ s. g _ s)
@@ -152,24 +152,24 @@ stacktrace_grows [] s k g = grown_refl _ s
 stacktrace_grows (t ∷ []) s k g = g (nil ∷ []) s
 stacktrace_grows (t ∷ u ∷ ts) s k g = grown_refl _ s
 
-primop_grows : (f : List ℕ) (ts : List Term) (s : State) (r : Handler) (k : Next) → HandlerGrows r → NextGrows k → Grown s (primop f ts s r k)
+pub primop_grows : (f : List ℕ) (ts : List Term) (s : State) (r : Handler) (k : Next) → HandlerGrows r → NextGrows k → Grown s (primop f ts s r k)
 unfolding primop
 primop_grows f ts s r k gr gk =
     cond_grows (bytes_eq f (codes "raise")) s _ _ (raise_grows ts s r gr)
     (cond_grows (bytes_eq f (codes "match_fail")) s _ _ (match_fail_grows ts s r gr)
     (cond_grows (bytes_eq f (codes "build_stacktrace")) s _ _ (stacktrace_grows ts s k gk) (grown_refl _ s)))
 
-comes_to_grows : (e : End) (s : State) (r : Handler) (k : Next) → HandlerGrows r → NextGrows k → Grown s (comes_to e s r k)
+pub comes_to_grows : (e : End) (s : State) (r : Handler) (k : Next) → HandlerGrows r → NextGrows k → Grown s (comes_to e s r k)
 comes_to_grows (End.value t) s r k gr gk = gk (t ∷ []) s
 comes_to_grows (End.raised class reason) s r k gr gk = gr class reason s
 
-performs_grows : (limits : Limits) (o : Outcome) (s : State) (r : Handler) (k : Next) → HandlerGrows r → NextGrows k → Grown s (performs limits o s r k)
+pub performs_grows : (limits : Limits) (o : Outcome) (s : State) (r : Handler) (k : Next) → HandlerGrows r → NextGrows k → Grown s (performs limits o s r k)
 unfolding performs
 performs_grows limits o s r k gr gk = grown_then (printing_later o.printed s) (builds_grow limits o.words (printing o.printed s) (λ s. comes_to o.end s r k) (λ s. comes_to_grows o.end s r k gr gk))
 
 module _ (program : Program) (limits : Limits) where
   module _ (call : Calls) (call_grows : CallGrows call) where
-    applies_grows : (t : Term) (ts : List Term) (d : ℕ) (s : State) (r : Handler) (k : Next) → HandlerGrows r → NextGrows k → Grown s (applies program limits call t ts d s r k)
+    pub applies_grows : (t : Term) (ts : List Term) (d : ℕ) (s : State) (r : Handler) (k : Next) → HandlerGrows r → NextGrows k → Grown s (applies program limits call t ts d s r k)
     unfolding applies
     applies_grows (fun n us) ts d s r k gr gk = cond_grows (nat_eq (arity_of program n) (length ts)) s _ _ (call_grows n (listed us) ts d s r k gr gk) (builds_grow limits _ s _ (λ s. gr error _ s))
     applies_grows (integer i) ts d s r k gr gk = builds_grow limits _ s _ (λ s. gr error _ s)
@@ -178,7 +178,7 @@ module _ (program : Program) (limits : Limits) where
     applies_grows (cons a b) ts d s r k gr gk = builds_grow limits _ s _ (λ s. gr error _ s)
     applies_grows (tuple us) ts d s r k gr gk = builds_grow limits _ s _ (λ s. gr error _ s)
 
-    applies_named_grows : (o : Option (ℕ × List Term)) (ts : List Term) (d : ℕ) (s : State) (r : Handler) (k : Next) → HandlerGrows r → NextGrows k → Grown s (applies_named call o ts d s r k)
+    pub applies_named_grows : (o : Option (ℕ × List Term)) (ts : List Term) (d : ℕ) (s : State) (r : Handler) (k : Next) → HandlerGrows r → NextGrows k → Grown s (applies_named call o ts d s r k)
     unfolding applies_named
     applies_named_grows None ts d s r k gr gk = grown_refl _ s
     applies_named_grows (Some f) ts d s r k gr gk = call_grows f.0 f.1 ts d s r k gr gk
@@ -187,7 +187,7 @@ module _ (program : Program) (limits : Limits) where
     calls_own_grows None ts d s r k gr gk = gr error _ s
     calls_own_grows (Some n) ts d s r k gr gk = call_grows n [] ts d s r k gr gk
 
-    calls_grows : (m f : List ℕ) (ts : List Term) (d : ℕ) (s : State) (r : Handler) (k : Next) → HandlerGrows r → NextGrows k → Grown s (calls program limits call m f ts d s r k)
+    pub calls_grows : (m f : List ℕ) (ts : List Term) (d : ℕ) (s : State) (r : Handler) (k : Next) → HandlerGrows r → NextGrows k → Grown s (calls program limits call m f ts d s r k)
     unfolding calls
     calls_grows m f ts d s r k gr gk =
         option_grows (built_in m f (length ts)) s (calls_own program limits call (own_function program m f (length ts)) ts d s r k) (λ b. performs limits (bif_outcome (arity_of program) b ts) s r k)
