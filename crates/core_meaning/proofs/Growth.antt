@@ -12,24 +12,14 @@ use Rattle.core_ast.specs.Nodes.{patterns_nodes}
 use Rattle.core_meaning.specs.Scopes.{names, variables_of_all, count_definitions, captured_by_fun, funs, funs_in_all}
 use Rattle.core_meaning.specs.Procedures.{Procedure, Program}
 use Rattle.core_meaning.specs.Matching.{matched_all, count_patterns}
-use Rattle.core_meaning.specs.Meaning.{State, Ending, Run, ends, Limits, Next, Handler, Calls, passes, worked, printing, builds, Context, part, behind, with, with_functions, value_of, values_in, function_of, fails, with_one, with_count, with_value, class_of, is_true, no_clause_for, makes_fun, makes_named, caught, causes, raises_as, raise, is_function_clause, match_fail, build_stacktrace, primop, count_arguments, count_clauses, tested_nodes, direct, arity_of, own_function, applies_named, comes_to, performs, applies, calls_own, calls, eval, eval_all, choose, at_entry, enters, calls_within}
-
-abbrev pub Prefix : List Term → List Term → Type 0
-Prefix a b = (c : List Term) × (b ≡ a ++ c)
+use Rattle.core_meaning.specs.Laws.{Prefix, Later, Grown, NextGrows, HandlerGrows}
+use Rattle.core_meaning.specs.Meaning.{State, Ending, Run, ends, Limits, Next, Handler, Calls, passes, worked, printing, entering, builds, Context, part, behind, with, with_functions, value_of, values_in, function_of, fails, with_one, with_count, with_value, class_of, is_true, no_clause_for, makes_fun, makes_named, caught, causes, raises_as, raise, is_function_clause, match_fail, build_stacktrace, primop, count_arguments, count_clauses, tested_nodes, direct, arity_of, own_function, applies_named, comes_to, performs, applies, calls_own, calls, eval, eval_all, choose, at_entry, enters, calls_within}
 
 pub prefix_refl : (a : List Term) → Prefix a a
 prefix_refl a = ([], sym (append-nil a))
 
 pub prefix_then : (a b c : List Term) → Prefix a b → Prefix b c → Prefix a c
 prefix_then a b c p q = (p.0 ++ q.0, q.1 ∙ ap (λ l. l ++ q.0) p.1 ∙ append_assoc a p.0 q.0)
-
--- t may come after s along a run
-pub record Later (s t : State) : Type 0 where
-  pub fuel : t.fuel ≤ s.fuel
-  pub words : s.words ≤ t.words
-  pub claim : s.claim ≤ t.claim
-  pub work : s.work ≤ t.work
-  pub printed : Prefix s.printed t.printed
 
 pub later_refl : (s : State) → Later s s
 later_refl s = record { fuel = omega arith; words = omega arith; claim = omega arith; work = omega arith; printed = prefix_refl s.printed }
@@ -43,10 +33,6 @@ later_then {s = s} {t = t} {u = u} p q =
       work = omega (arith, p.work, q.work);
       printed = prefix_then s.printed t.printed u.printed p.printed q.printed;
     }
-
--- a run that goes on from s
-pub record Grown (s : State) (x : Run) : Type 0 where
-  pub later : Later s x.state
 
 pub grown_refl : (e : Ending) (s : State) → Grown s (ends e s)
 grown_refl e s = record { later = later_refl s }
@@ -63,19 +49,13 @@ built_later n s = record { fuel = omega arith; words = omega arith; claim = omeg
 pub printing_later : (ts : List Term) (s : State) → Later s (printing ts s)
 printing_later ts s = record { fuel = omega arith; words = omega arith; claim = omega arith; work = omega arith; printed = (ts, refl) }
 
-pub entered_later : (n m : ℕ) (s : State) → Later s (record s { claim = max s.claim n; work = s.work + m })
+pub entered_later : (n m : ℕ) (s : State) → Later s (entering n m s)
 entered_later n m s = record { fuel = omega arith; words = omega arith; claim = grind arith; work = omega arith; printed = prefix_refl s.printed }
 
 pub spent_later : (fuel : ℕ) (s : State) → s.fuel ≡ suc fuel → Later s (record s { fuel = fuel })
 spent_later fuel s is = record { fuel = omega (arith, is); words = omega arith; claim = omega arith; work = omega arith; printed = prefix_refl s.printed }
 
 -- ---- what comes next grows
-
-abbrev pub NextGrows : Next → Type 0
-NextGrows k = (ts : List Term) (s : State) → Grown s (k ts s)
-
-abbrev pub HandlerGrows : Handler → Type 0
-HandlerGrows r = (class : Class) (reason : Term) (s : State) → Grown s (r class reason s)
 
 abbrev pub CallGrows : Calls → Type 0
 CallGrows call = (n : ℕ) (captured ts : List Term) (d : ℕ) (s : State) (r : Handler) (k : Next) → HandlerGrows r → NextGrows k → Grown s (call n captured ts d s r k)
@@ -243,14 +223,14 @@ module _ (program : Program) (limits : Limits) where
           (λ us. grows guard (part (with (variables_of_all ps) us c)) s _ _ (λ class reason s. choose_grows cs ts (behind (funs guard + funs body) c) s r k gr gk)
           (λ gs s. one_grows gs s _ (λ g s. bool_grows (is_true g) s _ _ (grows body (with (variables_of_all ps) us (behind (funs guard) c)) s r k gr gk) (choose_grows cs ts (behind (funs guard + funs body) c) s r k gr gk)))))
 
-    enters_grows : (n : ℕ) (o : Option Procedure) (captured ts : List Term) (d : ℕ) (s : State) (r : Handler) (k : Next) → HandlerGrows r → NextGrows k → Grown s (enters program limits call n o captured ts d s r k)
+    pub enters_grows : (n : ℕ) (o : Option Procedure) (captured ts : List Term) (d : ℕ) (s : State) (r : Handler) (k : Next) → HandlerGrows r → NextGrows k → Grown s (enters program limits call n o captured ts d s r k)
     enters_grows n None captured ts d s r k gr gk = grown_refl _ s
     enters_grows n (Some f) captured ts d s r k gr gk =
         count_grows (length f.parameters) ts s _
         (cond_grows (passes (d + limits.frame n) limits.stack) s _ _ (grown_refl _ s)
-        (grown_then (entered_later (d + limits.frame n) (length captured) s) (grows f.body (at_entry program limits f captured ts (d + limits.frame n) d) (record s { claim = max s.claim (d + limits.frame n); work = s.work + length captured }) r k gr gk)))
+        (grown_then (entered_later (d + limits.frame n) (length captured) s) (grows f.body (at_entry program limits f captured ts (d + limits.frame n) d) (entering (d + limits.frame n) (length captured) s) r k gr gk)))
 
-  fuel_grows : (fuel : ℕ) (s : State) (x : Run) (y : ℕ → Run) → Grown s x → ((f : ℕ) → fuel ≡ suc f → Grown s (y f)) → Grown s (elim fuel [ zero ↦ x | suc f ↦ y f ])
+  pub fuel_grows : (fuel : ℕ) (s : State) (x : Run) (y : ℕ → Run) → Grown s x → ((f : ℕ) → fuel ≡ suc f → Grown s (y f)) → Grown s (elim fuel [ zero ↦ x | suc f ↦ y f ])
   fuel_grows zero s x y g h = g
   fuel_grows (suc f) s x y g h = h f refl
 
@@ -259,3 +239,6 @@ module _ (program : Program) (limits : Limits) where
   calls_within_grow (suc b) n captured ts d s r k gr gk =
       fuel_grows s.fuel s (ends Ending.fuel_spent s) (λ fuel. enters program limits (calls_within program limits b) n (slice_get program.procedures n) captured ts d (record s { fuel = fuel }) r k) (grown_refl _ s)
       (λ fuel is. grown_then (spent_later fuel s is) (enters_grows (calls_within program limits b) (calls_within_grow b) n (slice_get program.procedures n) captured ts d (record s { fuel = fuel }) r k gr gk))
+
+pub evaluation_grows : (program : Program) (limits : Limits) (depth : ℕ) (e : Expression) (c : Context) (s : State) (r : Handler) (k : Next) → HandlerGrows r → NextGrows k → Grown s (eval program limits (calls_within program limits depth) e c s r k)
+evaluation_grows program limits depth = grows program limits (calls_within program limits depth) (calls_within_grow program limits depth)

@@ -4,3 +4,4 @@ pub mod Procedures
 pub mod Matching
 pub mod Meaning
 pub mod Source
+pub mod Laws

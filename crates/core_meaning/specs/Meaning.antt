@@ -72,6 +72,10 @@ worked n s = record s { work = s.work + n }
 abbrev pub printing : List Term → State → State
 printing ts s = record s { printed = s.printed ++ ts }
 
+-- an activation that reaches up to this depth, with so many captured values
+abbrev pub entering : (top captured : ℕ) → State → State
+entering top captured s = record s { claim = max s.claim top; work = s.work + captured }
+
 -- goes on with so many more words, where the heap has them
 unfoldable pub builds : Limits → ℕ → State → (State → Run) → Run
 builds limits n s go = if passes (s.words + n) limits.heap then ends Ending.heap_full s else go (record s { words = s.words + n })
@@ -355,7 +359,7 @@ module _ (program : Program) (limits : Limits) where
   enters call n (Some f) captured ts d s r k =
       with_count (length f.parameters) ts s
       (if passes (d + limits.frame n) limits.stack then ends Ending.stack_full s
-      else eval call f.body (at_entry f captured ts (d + limits.frame n) d) (record s { claim = max s.claim (d + limits.frame n); work = s.work + length captured }) r k)
+      else eval call f.body (at_entry f captured ts (d + limits.frame n) d) (entering (d + limits.frame n) (length captured) s) r k)
 
   -- Applications at most so deep. Each spends one unit of fuel, and none is made where there is none.
   abbrev pub calls_within : ℕ → Calls

@@ -1,12 +1,12 @@
 // What a module of Core Erlang means.
+//
+// Its definitions stand in specs/: the names in scope and what funs capture (Scopes), the functions of a module by number
+// (Procedures), patterns (Matching), expressions with all that a run counts (Meaning), and the run of a call (Source). The meaning
+// under limits on heap and stack is the same definition with limits. The crate's functions have no bodies: each states a law of these
+// definitions.
+//
+// Files:
+//   laws.rt    what holds of all runs
 #![tactic(auto)]
 
-ghost use Rattle.std.specs.Prelude.{◌≡◌, ℕ};
-ghost use Rattle.core_ast.specs.Trees.{Module};
-ghost use Rattle.hipe_terms.specs.declared.constant.Call.{Call};
-ghost use Rattle.core_meaning.specs.Source.{source_run};
-
-/// One run.
-pub fn one_run()
-    ensures { (m : Module) → (c : Call) → (k : ℕ) → source_run m c k ≡ source_run m c k }
-{}
+pub mod laws;
