@@ -9,7 +9,6 @@
 //   compare.rt    the order of constants
 //   text.rt       the text of constants
 //   words.rt      the words that constants take
-//   tests.rt      orders and texts by hand
 #![tactic(auto)]
 
 pub mod atom;
@@ -18,8 +17,6 @@ pub mod compare;
 pub mod constant;
 pub mod limits;
 pub mod place;
-#[cfg(test)]
-mod tests;
 pub mod text;
 pub mod words;
 

@@ -1,10 +1,7 @@
 // Orders and texts by hand.
 
-use crate::atom::Atom;
-use crate::bif::Bif;
-use crate::compare::{order, same};
-use crate::constant::{Constant, is_constant};
-use crate::text::show;
+use crate::words::pair;
+use hipe_terms::{Atom, Bif, Constant, is_constant, order, same, show, words_of};
 use sqlite_items::{Boxed, Items};
 use std::alloc::{AllocError, Global};
 use std::cmp::Ordering;
@@ -144,4 +141,11 @@ fn built_in_functions_have_names(rt: HostRuntime) {
     assert_eq!(rt; Bif::IsFunctionOfArity.name(), "is_function");
     assert_eq!(rt; Bif::IsFunctionOfArity.arity(), 2);
     assert_eq!(rt; Bif::AtMost.name(), "=<");
+}
+
+#[test]
+fn words_are_counted(rt: HostRuntime) -> Result<(), Fail> {
+    let alloc = rt.alloc();
+    assert_eq!(rt; words_of(&pair(alloc)?), 3);
+    Ok(())
 }
