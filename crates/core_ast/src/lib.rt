@@ -7,9 +7,11 @@
 //   count.rt      the nodes of a function
 //   limits.rt     the limits of modules, each by name with its reason
 //   rule.rt       the rules of good modules
+//   good.rt       good modules
 #![tactic(auto)]
 
 pub mod count;
+pub mod good;
 pub mod limits;
 pub mod pattern;
 pub mod rule;
@@ -17,6 +19,7 @@ pub mod tree;
 pub mod variable;
 
 pub use count::nodes;
+pub use good::GoodModule;
 pub use hipe_terms::Place;
 pub use pattern::{PatNode, Pattern, Var};
 pub use rule::Rule;
