@@ -2,3 +2,11 @@
 pub mod Trees
 pub mod Nodes
 pub mod SameTree
+pub mod WellFormed
+pub mod Names
+pub mod Places
+pub mod Part
+pub mod Parts
+pub mod Degrees
+pub mod Rules
+pub mod Good

@@ -1,0 +1,28 @@
+// The rules of good modules.
+
+/// A rule that a module of the profile must keep, beside the grammar. Where several are broken at one place, the first of
+/// these is answered.
+#[derive(Clone, Copy, Debug, PartialEq, Eq, PartialOrd, Ord)]
+pub enum Rule {
+    /// Two functions of the module, or of one `letrec`, have one name and arity. Broken at the second name.
+    DuplicateFunction,
+    /// An exported name without a definition. A repeated export is allowed.
+    ExportUndefined,
+    /// A function's name that is in no scope.
+    UnboundFunction,
+    /// A variable that is in no scope.
+    UnboundVariable,
+    /// A variable that is bound twice: by a fun's parameters, a `let`, the `of` or the `catch` of a `try`, or the patterns
+    /// of one clause. Broken at the second.
+    DuplicateVariable,
+    /// A part that has another number of values than its place needs; and a function with another number of parameters
+    /// than its name says, at its `fun`.
+    Degree,
+    /// A name, a fun, an `apply`, a `call` or a `primop` with more than `ARITY_LIMIT` parameters or arguments.
+    ArityLimit,
+    /// Another primitive operation than `raise/2`, `match_fail/1` and `build_stacktrace/1`.
+    UnknownPrimop,
+    /// A function of the module with more than `NODE_LIMIT` nodes, at its name; and the `fun` of the first function beyond
+    /// `FUNCTION_LIMIT`.
+    SizeLimit,
+}
