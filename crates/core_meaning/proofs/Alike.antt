@@ -7,10 +7,11 @@ use Rattle.hipe_terms.specs.Bifs.{built_in}
 use Rattle.hipe_terms.specs.Outcome.{Class, error, exit, throw, End, Outcome, bif_outcome}
 use Rattle.core_ast.specs.declared.tree.FunName.{FunName}
 use Rattle.core_ast.specs.Trees.{Expression, Expressions, no_expression, and_expression, Clauses, no_clause, and_clause}
-use Rattle.core_meaning.specs.Scopes.{names, variables_of_all, count_definitions, captured_by_fun, funs, funs_in_all}
+use Rattle.core_meaning.specs.Scopes.{names, bound_by, count_definitions, captured_by_fun, funs, funs_in_all}
 use Rattle.core_meaning.specs.Procedures.{Procedure, Program}
-use Rattle.core_meaning.specs.Matching.{matched_all, count_patterns}
-use Rattle.core_meaning.specs.Meaning.{State, Ending, Run, ends, Limits, Next, Handler, Calls, worked, printing, builds, Context, part, behind, with, with_functions, value_of, values_in, function_of, pair, fails, with_one, with_count, with_value, class_of, is_true, no_clause_for, makes_fun, makes_named, caught, causes, raises_as, raise, is_function_clause, match_fail, build_stacktrace, primop, count_arguments, count_clauses, tested_nodes, direct, arity_of, own_function, applies_named, comes_to, performs, applies, calls_own, calls, eval, eval_all, choose}
+use Rattle.core_meaning.specs.Matching.{matched_all}
+use Rattle.core_ast.specs.Degrees.{count, count_patterns}
+use Rattle.core_meaning.specs.Meaning.{State, Ending, Run, ends, Limits, Next, Handler, Calls, worked, printing, builds, Context, part, behind, with, with_functions, value_of, values_in, function_of, pair, fails, with_one, with_count, with_value, class_of, is_true, no_clause_for, makes_fun, makes_named, caught, causes, raises_as, raise, is_function_clause, match_fail, build_stacktrace, primop, count_clauses, tested_nodes, direct, arity_of, own_function, applies_named, comes_to, performs, applies, calls_own, calls, eval, eval_all, choose}
 use Rattle.core_meaning.specs.Laws.{Grown, NextGrows, HandlerGrows}
 use Rattle.core_meaning.proofs.Growth.{grown_refl, grown_then, CallGrows, built_later, worked_later, printing_later, bool_grows, cond_grows, option_grows, builds_grow, one_grows, count_grows, value_grows, no_clause_grows, fun_grows, named_grows, caught_grows, primop_grows, comes_to_grows, performs_grows, applies_grows, applies_named_grows, calls_grows, grows, all_grow, choose_grows}
 
@@ -166,10 +167,10 @@ module _ (program : Program) (L M : Limits) (R : State → State → Type 0) (D 
         alike (Expression.Variable p z) c i d x y r s k l u v w h q = value_alike (value_of z c) (worked 1 x) (worked 1 y) k l (step.works 1 x y w) q
         alike (Expression.Name p n) c i d x y r s k l u v w h q = named_alike (function_of n c) (worked 1 x) (worked 1 y) k l (step.works 1 x y w) q
         alike (Expression.Tuple p es) c i d x y r s k l u v w h q =
-            all_alike es (part c) i i (worked (1 + count_arguments es) x) (worked (1 + count_arguments es) y) r s _ _ u u (step.works (1 + count_arguments es) x y w) h
+            all_alike es (part c) i i (worked (1 + count es) x) (worked (1 + count es) y) r s _ _ u u (step.works (1 + count es) x y w) h
             (record { alike = λ ts x y w. given_alike (tuple_words (length ts)) (tuple (terms ts)) x y k l w q; grows = λ ts y. builds_grow M _ y _ (λ y. q.grows _ y) })
         alike (Expression.Cons p es e) c i d x y r s k l u v w h q =
-            all_alike es (part c) i i (worked (2 + count_arguments es) x) (worked (2 + count_arguments es) y) r s _ _ u u (step.works (2 + count_arguments es) x y w) h
+            all_alike es (part c) i i (worked (2 + count es) x) (worked (2 + count es) y) r s _ _ u u (step.works (2 + count es) x y w) h
             (record {
               alike = λ ts x y w. alike e (part (behind (funs_in_all es) c)) i i x y r s _ _ u u w h
                   (record {
@@ -178,7 +179,7 @@ module _ (program : Program) (L M : Limits) (R : State → State → Type 0) (D 
                   });
               grows = λ ts y. grows program M g call.grows e (part (behind (funs_in_all es) (moved i i c))) y s _ h.grows (λ us y. one_grows us y _ (λ t y. builds_grow M _ y _ (λ y. q.grows _ y)));
             })
-        alike (Expression.Values p es) c i d x y r s k l u v w h q = all_alike es (part c) i i (worked (1 + count_arguments es) x) (worked (1 + count_arguments es) y) r s k l u u (step.works (1 + count_arguments es) x y w) h q
+        alike (Expression.Values p es) c i d x y r s k l u v w h q = all_alike es (part c) i i (worked (1 + count es) x) (worked (1 + count es) y) r s k l u u (step.works (1 + count es) x y w) h q
         alike (Expression.Let p zs a b) c i d x y r s k l u v w h q =
             alike a (part c) i i (worked (3 + length zs) x) (worked (3 + length zs) y) r s _ _ u u (step.works (3 + length zs) x y w) h
             (record {
@@ -194,10 +195,10 @@ module _ (program : Program) (L M : Limits) (R : State → State → Type 0) (D 
         alike (Expression.Lambda p p' zs b) c i d x y r s k l u v w h q = fun_alike c.number (values_in c.bound (captured_by_fun c.scope (names zs) b)) (worked 2 x) (worked 2 y) k l (step.works 2 x y w) q
         alike (Expression.Letrec p ds b) c i d x y r s k l u v w h q = alike b (with_functions ds c) i d (worked (2 + count_definitions ds) x) (worked (2 + count_definitions ds) y) r s k l u v (step.works (2 + count_definitions ds) x y w) h q
         alike (Expression.Apply p e es) c i d x y r s k l u v w h q =
-            option_alike E (direct e (count_arguments es)) _ _
-            (λ n. eval_all program L f es (part (behind (funs e) c)) (worked (2 + count_arguments es) x) r (λ ts x. applies_named f (function_of n c) ts c.depth x r k))
-            (λ n. eval_all program M g es (part (behind (funs e) (moved i d c))) (worked (2 + count_arguments es) y) s (λ ts y. applies_named g (function_of n c) ts d y s l))
-            (alike e (part c) i i (worked (2 + count_arguments es) x) (worked (2 + count_arguments es) y) r s _ _ u u (step.works (2 + count_arguments es) x y w) h
+            option_alike E (direct e (count es)) _ _
+            (λ n. eval_all program L f es (part (behind (funs e) c)) (worked (2 + count es) x) r (λ ts x. applies_named f (function_of n c) ts c.depth x r k))
+            (λ n. eval_all program M g es (part (behind (funs e) (moved i d c))) (worked (2 + count es) y) s (λ ts y. applies_named g (function_of n c) ts d y s l))
+            (alike e (part c) i i (worked (2 + count es) x) (worked (2 + count es) y) r s _ _ u u (step.works (2 + count es) x y w) h
             (record {
               alike = λ fs x y w. one_alike fs x y _ _ w (λ t x y w. all_alike es (part (behind (funs e) c)) i i x y r s _ _ u u w h
                   (record {
@@ -206,19 +207,19 @@ module _ (program : Program) (L M : Limits) (R : State → State → Type 0) (D 
                   }));
               grows = λ fs y. one_grows fs y _ (λ t y. all_grow program M g call.grows es (part (behind (funs e) (moved i d c))) y s _ h.grows (λ ts y. applies_grows program M g call.grows t ts d y s l h.grows q.grows));
             }))
-            (λ n. all_alike es (part (behind (funs e) c)) i i (worked (2 + count_arguments es) x) (worked (2 + count_arguments es) y) r s _ _ u u (step.works (2 + count_arguments es) x y w) h
+            (λ n. all_alike es (part (behind (funs e) c)) i i (worked (2 + count es) x) (worked (2 + count es) y) r s _ _ u u (step.works (2 + count es) x y w) h
             (record {
               alike = λ ts x y w. applies_named_alike (function_of n c) ts c.depth d x y r s k l v w h q;
               grows = λ ts y. applies_named_grows program M g call.grows (function_of n c) ts d y s l h.grows q.grows;
             }))
         alike (Expression.Call p m n es) c i d x y r s k l u v w h q =
-            all_alike es (part c) i i (worked (1 + count_arguments es) x) (worked (1 + count_arguments es) y) r s _ _ u u (step.works (1 + count_arguments es) x y w) h
+            all_alike es (part c) i i (worked (1 + count es) x) (worked (1 + count es) y) r s _ _ u u (step.works (1 + count es) x y w) h
             (record {
               alike = λ ts x y w. calls_alike m n ts c.depth d x y r s k l v w h q;
               grows = λ ts y. calls_grows program M g call.grows m n ts d y s l h.grows q.grows;
             })
         alike (Expression.Primop p n es) c i d x y r s k l u v w h q =
-            all_alike es (part c) i i (worked (1 + count_arguments es) x) (worked (1 + count_arguments es) y) r s _ _ u u (step.works (1 + count_arguments es) x y w) h
+            all_alike es (part c) i i (worked (1 + count es) x) (worked (1 + count es) y) r s _ _ u u (step.works (1 + count es) x y w) h
             (record { alike = λ ts x y w. primop_alike n ts x y r s k l w h q; grows = λ ts y. primop_grows n ts y s l h.grows q.grows })
         alike (Expression.Try p a zs b ys e) c i d x y r s k l u v w h q =
             alike a (part c) i i (worked (4 + length zs + length ys) x) (worked (4 + length zs + length ys) y) _ _ _ _ u u (step.works (4 + length zs + length ys) x y w)
@@ -258,18 +259,18 @@ module _ (program : Program) (L M : Limits) (R : State → State → Type 0) (D 
         choose_alike (and_clause p ps guard body cs) ts c i d x y r s k l u v w h q =
             count_alike (count_patterns ps) ts x y _ _ w
             (option_alike E (matched_all ps (terms ts)) _ _
-            (λ us. eval program L f guard (part (with (variables_of_all ps) us c)) x (λ class reason x. choose program L f cs ts (behind (funs guard + funs body) c) x r k)
-            (λ gs x. with_one gs x (λ t x. elim (is_true t) [ true ↦ eval program L f body (with (variables_of_all ps) us (behind (funs guard) c)) x r k | false ↦ choose program L f cs ts (behind (funs guard + funs body) c) x r k ])))
-            (λ us. eval program M g guard (part (with (variables_of_all ps) us (moved i d c))) y (λ class reason y. choose program M g cs ts (behind (funs guard + funs body) (moved i d c)) y s l)
-            (λ gs y. with_one gs y (λ t y. elim (is_true t) [ true ↦ eval program M g body (with (variables_of_all ps) us (behind (funs guard) (moved i d c))) y s l | false ↦ choose program M g cs ts (behind (funs guard + funs body) (moved i d c)) y s l ])))
+            (λ us. eval program L f guard (part (with (bound_by ps) us c)) x (λ class reason x. choose program L f cs ts (behind (funs guard + funs body) c) x r k)
+            (λ gs x. with_one gs x (λ t x. elim (is_true t) [ true ↦ eval program L f body (with (bound_by ps) us (behind (funs guard) c)) x r k | false ↦ choose program L f cs ts (behind (funs guard + funs body) c) x r k ])))
+            (λ us. eval program M g guard (part (with (bound_by ps) us (moved i d c))) y (λ class reason y. choose program M g cs ts (behind (funs guard + funs body) (moved i d c)) y s l)
+            (λ gs y. with_one gs y (λ t y. elim (is_true t) [ true ↦ eval program M g body (with (bound_by ps) us (behind (funs guard) (moved i d c))) y s l | false ↦ choose program M g cs ts (behind (funs guard + funs body) (moved i d c)) y s l ])))
             (choose_alike cs ts (behind (funs guard + funs body) c) i d x y r s k l u v w h q)
-            (λ us. alike guard (part (with (variables_of_all ps) us c)) i i x y _ _ _ _ u u w
+            (λ us. alike guard (part (with (bound_by ps) us c)) i i x y _ _ _ _ u u w
             (record {
               alike = λ class reason x y w. choose_alike cs ts (behind (funs guard + funs body) c) i d x y r s k l u v w h q;
               grows = λ class reason y. choose_grows program M g call.grows cs ts (behind (funs guard + funs body) (moved i d c)) y s l h.grows q.grows;
             })
             (record {
-              alike = λ gs x y w. one_alike gs x y _ _ w (λ t x y w. bool_alike E (is_true t) _ _ _ _ (alike body (with (variables_of_all ps) us (behind (funs guard) c)) i d x y r s k l u v w h q) (choose_alike cs ts (behind (funs guard + funs body) c) i d x y r s k l u v w h q));
-              grows = λ gs y. one_grows gs y _ (λ t y. bool_grows (is_true t) y _ _ (grows program M g call.grows body (with (variables_of_all ps) us (behind (funs guard) (moved i d c))) y s l h.grows q.grows)
+              alike = λ gs x y w. one_alike gs x y _ _ w (λ t x y w. bool_alike E (is_true t) _ _ _ _ (alike body (with (bound_by ps) us (behind (funs guard) c)) i d x y r s k l u v w h q) (choose_alike cs ts (behind (funs guard + funs body) c) i d x y r s k l u v w h q));
+              grows = λ gs y. one_grows gs y _ (λ t y. bool_grows (is_true t) y _ _ (grows program M g call.grows body (with (bound_by ps) us (behind (funs guard) (moved i d c))) y s l h.grows q.grows)
                   (choose_grows program M g call.grows cs ts (behind (funs guard + funs body) (moved i d c)) y s l h.grows q.grows));
             })))

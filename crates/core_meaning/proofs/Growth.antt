@@ -9,11 +9,12 @@ use Rattle.hipe_terms.specs.Outcome.{Class, error, exit, throw, End, Outcome, bi
 use Rattle.core_ast.specs.declared.tree.FunName.{FunName}
 use Rattle.core_ast.specs.Trees.{Expression, Expressions, no_expression, and_expression, Clauses, no_clause, and_clause}
 use Rattle.core_ast.specs.Nodes.{patterns_nodes}
-use Rattle.core_meaning.specs.Scopes.{names, variables_of_all, count_definitions, captured_by_fun, funs, funs_in_all}
+use Rattle.core_meaning.specs.Scopes.{names, bound_by, count_definitions, captured_by_fun, funs, funs_in_all}
 use Rattle.core_meaning.specs.Procedures.{Procedure, Program}
-use Rattle.core_meaning.specs.Matching.{matched_all, count_patterns}
+use Rattle.core_meaning.specs.Matching.{matched_all}
+use Rattle.core_ast.specs.Degrees.{count, count_patterns}
 use Rattle.core_meaning.specs.Laws.{Prefix, Later, Grown, NextGrows, HandlerGrows}
-use Rattle.core_meaning.specs.Meaning.{State, Ending, Run, ends, Limits, Next, Handler, Calls, passes, worked, printing, entering, builds, Context, part, behind, with, with_functions, value_of, values_in, function_of, fails, with_one, with_count, with_value, class_of, is_true, no_clause_for, makes_fun, makes_named, caught, causes, raises_as, raise, is_function_clause, match_fail, build_stacktrace, primop, count_arguments, count_clauses, tested_nodes, direct, arity_of, own_function, applies_named, comes_to, performs, applies, calls_own, calls, eval, eval_all, choose, at_entry, enters, calls_within}
+use Rattle.core_meaning.specs.Meaning.{State, Ending, Run, ends, Limits, Next, Handler, Calls, passes, worked, printing, entering, builds, Context, part, behind, with, with_functions, value_of, values_in, function_of, fails, with_one, with_count, with_value, class_of, is_true, no_clause_for, makes_fun, makes_named, caught, causes, raises_as, raise, is_function_clause, match_fail, build_stacktrace, primop, count_clauses, tested_nodes, direct, arity_of, own_function, applies_named, comes_to, performs, applies, calls_own, calls, eval, eval_all, choose, at_entry, enters, calls_within}
 
 pub prefix_refl : (a : List Term) → Prefix a a
 prefix_refl a = ([], sym (append-nil a))
@@ -180,11 +181,11 @@ module _ (program : Program) (limits : Limits) where
       grows (Expression.Nil p) c s r k gr gk = grown_then (worked_later 1 s) (gk _ (worked 1 s))
       grows (Expression.Variable p x) c s r k gr gk = grown_then (worked_later 1 s) (value_grows (value_of x c) (worked 1 s) k gk)
       grows (Expression.Name p f) c s r k gr gk = grown_then (worked_later 1 s) (named_grows limits (function_of f c) (worked 1 s) k gk)
-      grows (Expression.Tuple p es) c s r k gr gk = grown_then (worked_later (1 + count_arguments es) s) (all_grow es (part c) (worked (1 + count_arguments es) s) r _ gr (λ ts s. builds_grow limits _ s _ (λ s. gk _ s)))
+      grows (Expression.Tuple p es) c s r k gr gk = grown_then (worked_later (1 + count es) s) (all_grow es (part c) (worked (1 + count es) s) r _ gr (λ ts s. builds_grow limits _ s _ (λ s. gk _ s)))
       grows (Expression.Cons p es e) c s r k gr gk =
-          grown_then (worked_later (2 + count_arguments es) s) (all_grow es (part c) (worked (2 + count_arguments es) s) r _ gr
+          grown_then (worked_later (2 + count es) s) (all_grow es (part c) (worked (2 + count es) s) r _ gr
           (λ ts s. grows e (part (behind (funs_in_all es) c)) s r _ gr (λ us s. one_grows us s _ (λ u s. builds_grow limits _ s _ (λ s. gk _ s)))))
-      grows (Expression.Values p es) c s r k gr gk = grown_then (worked_later (1 + count_arguments es) s) (all_grow es (part c) (worked (1 + count_arguments es) s) r k gr gk)
+      grows (Expression.Values p es) c s r k gr gk = grown_then (worked_later (1 + count es) s) (all_grow es (part c) (worked (1 + count es) s) r k gr gk)
       grows (Expression.Let p xs a b) c s r k gr gk =
           grown_then (worked_later (3 + length xs) s) (grows a (part c) (worked (3 + length xs) s) r _ gr (λ ts s. count_grows (length xs) ts s _ (grows b (with (names xs) ts (behind (funs a) c)) s r k gr gk)))
       grows (Expression.Case p a cs) c s r k gr gk =
@@ -192,14 +193,14 @@ module _ (program : Program) (limits : Limits) where
       grows (Expression.Lambda p q xs b) c s r k gr gk = grown_then (worked_later 2 s) (fun_grows limits c.number (values_in c.bound (captured_by_fun c.scope (names xs) b)) (worked 2 s) k gk)
       grows (Expression.Letrec p ds b) c s r k gr gk = grown_then (worked_later (2 + count_definitions ds) s) (grows b (with_functions ds c) (worked (2 + count_definitions ds) s) r k gr gk)
       grows (Expression.Apply p f es) c s r k gr gk =
-          grown_then (worked_later (2 + count_arguments es) s)
-          (option_grows (direct f (count_arguments es)) (worked (2 + count_arguments es) s)
-          (eval program limits call f (part c) (worked (2 + count_arguments es) s) r (λ fs s. with_one fs s (λ t s. eval_all program limits call es (part (behind (funs f) c)) s r (λ ts s. applies program limits call t ts c.depth s r k))))
-          (λ g. eval_all program limits call es (part (behind (funs f) c)) (worked (2 + count_arguments es) s) r (λ ts s. applies_named call (function_of g c) ts c.depth s r k))
-          (grows f (part c) (worked (2 + count_arguments es) s) r _ gr (λ fs s. one_grows fs s _ (λ t s. all_grow es (part (behind (funs f) c)) s r _ gr (λ ts s. applies_grows t ts c.depth s r k gr gk))))
-          (λ g. all_grow es (part (behind (funs f) c)) (worked (2 + count_arguments es) s) r _ gr (λ ts s. applies_named_grows (function_of g c) ts c.depth s r k gr gk)))
-      grows (Expression.Call p m f es) c s r k gr gk = grown_then (worked_later (1 + count_arguments es) s) (all_grow es (part c) (worked (1 + count_arguments es) s) r _ gr (λ ts s. calls_grows m f ts c.depth s r k gr gk))
-      grows (Expression.Primop p f es) c s r k gr gk = grown_then (worked_later (1 + count_arguments es) s) (all_grow es (part c) (worked (1 + count_arguments es) s) r _ gr (λ ts s. primop_grows f ts s r k gr gk))
+          grown_then (worked_later (2 + count es) s)
+          (option_grows (direct f (count es)) (worked (2 + count es) s)
+          (eval program limits call f (part c) (worked (2 + count es) s) r (λ fs s. with_one fs s (λ t s. eval_all program limits call es (part (behind (funs f) c)) s r (λ ts s. applies program limits call t ts c.depth s r k))))
+          (λ g. eval_all program limits call es (part (behind (funs f) c)) (worked (2 + count es) s) r (λ ts s. applies_named call (function_of g c) ts c.depth s r k))
+          (grows f (part c) (worked (2 + count es) s) r _ gr (λ fs s. one_grows fs s _ (λ t s. all_grow es (part (behind (funs f) c)) s r _ gr (λ ts s. applies_grows t ts c.depth s r k gr gk))))
+          (λ g. all_grow es (part (behind (funs f) c)) (worked (2 + count es) s) r _ gr (λ ts s. applies_named_grows (function_of g c) ts c.depth s r k gr gk)))
+      grows (Expression.Call p m f es) c s r k gr gk = grown_then (worked_later (1 + count es) s) (all_grow es (part c) (worked (1 + count es) s) r _ gr (λ ts s. calls_grows m f ts c.depth s r k gr gk))
+      grows (Expression.Primop p f es) c s r k gr gk = grown_then (worked_later (1 + count es) s) (all_grow es (part c) (worked (1 + count es) s) r _ gr (λ ts s. primop_grows f ts s r k gr gk))
       grows (Expression.Try p a xs b ys h) c s r k gr gk =
           grown_then (worked_later (4 + length xs + length ys) s) (grows a (part c) (worked (4 + length xs + length ys) s) _ _
           (λ class reason s. option_grows (causes class reason (length ys)) s (ends Ending.stuck s) (λ ts. eval program limits call h (with (names ys) ts (behind (funs a + funs b) c)) s r k) (grown_refl _ s)
@@ -217,11 +218,11 @@ module _ (program : Program) (limits : Limits) where
       choose_grows (and_clause p ps guard body cs) ts c s r k gr gk =
           count_grows (count_patterns ps) ts s _
           (option_grows (matched_all ps (terms ts)) s (choose program limits call cs ts (behind (funs guard + funs body) c) s r k)
-          (λ us. eval program limits call guard (part (with (variables_of_all ps) us c)) s (λ class reason s. choose program limits call cs ts (behind (funs guard + funs body) c) s r k)
-          (λ gs s. with_one gs s (λ g s. elim (is_true g) [ true ↦ eval program limits call body (with (variables_of_all ps) us (behind (funs guard) c)) s r k | false ↦ choose program limits call cs ts (behind (funs guard + funs body) c) s r k ])))
+          (λ us. eval program limits call guard (part (with (bound_by ps) us c)) s (λ class reason s. choose program limits call cs ts (behind (funs guard + funs body) c) s r k)
+          (λ gs s. with_one gs s (λ g s. elim (is_true g) [ true ↦ eval program limits call body (with (bound_by ps) us (behind (funs guard) c)) s r k | false ↦ choose program limits call cs ts (behind (funs guard + funs body) c) s r k ])))
           (choose_grows cs ts (behind (funs guard + funs body) c) s r k gr gk)
-          (λ us. grows guard (part (with (variables_of_all ps) us c)) s _ _ (λ class reason s. choose_grows cs ts (behind (funs guard + funs body) c) s r k gr gk)
-          (λ gs s. one_grows gs s _ (λ g s. bool_grows (is_true g) s _ _ (grows body (with (variables_of_all ps) us (behind (funs guard) c)) s r k gr gk) (choose_grows cs ts (behind (funs guard + funs body) c) s r k gr gk)))))
+          (λ us. grows guard (part (with (bound_by ps) us c)) s _ _ (λ class reason s. choose_grows cs ts (behind (funs guard + funs body) c) s r k gr gk)
+          (λ gs s. one_grows gs s _ (λ g s. bool_grows (is_true g) s _ _ (grows body (with (bound_by ps) us (behind (funs guard) c)) s r k gr gk) (choose_grows cs ts (behind (funs guard + funs body) c) s r k gr gk)))))
 
     pub enters_grows : (n : ℕ) (o : Option Procedure) (captured ts : List Term) (d : ℕ) (s : State) (r : Handler) (k : Next) → HandlerGrows r → NextGrows k → Grown s (enters program limits call n o captured ts d s r k)
     enters_grows n None captured ts d s r k gr gk = grown_refl _ s

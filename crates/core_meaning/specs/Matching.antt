@@ -59,7 +59,3 @@ abbrev mutual
   pub matched_cells : Patterns → (Term → Match) → Term → Match
   matched_cells no_pattern tail t = tail t
   matched_cells (and_pattern p ps) tail t = elim (parts_of t) [ None ↦ None | Some parts ↦ together (matched p parts.0) (matched_cells ps tail parts.1) ]
-
-abbrev pub count_patterns : Patterns → ℕ
-count_patterns no_pattern = 0
-count_patterns (and_pattern p ps) = suc (count_patterns ps)

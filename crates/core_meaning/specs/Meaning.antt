@@ -11,9 +11,11 @@ use Rattle.hipe_terms.specs.Outcome.{Class, error, exit, throw, End, Outcome, bi
 use Rattle.core_ast.specs.declared.tree.FunName.{FunName}
 use Rattle.core_ast.specs.Trees.{Expression, Expressions, no_expression, and_expression, Clauses, no_clause, and_clause, Definitions, no_definition, and_definition}
 use Rattle.core_ast.specs.Nodes.{patterns_nodes}
-use Rattle.core_meaning.specs.Scopes.{Known, Scope, is_named, slot_of, known_of, names, binding, variables_of_all, count_definitions, captured_by_fun, funs, funs_in_all, funs_in_definitions, letrec_scope}
+use Rattle.core_ast.specs.Names.{is_named}
+use Rattle.core_ast.specs.Degrees.{count, count_patterns}
+use Rattle.core_meaning.specs.Scopes.{Known, Scope, slot_of, known_of, names, binding, bound_by, count_definitions, captured_by_fun, funs, funs_in_all, funs_in_definitions, letrec_scope}
 use Rattle.core_meaning.specs.Procedures.{Procedure, Program}
-use Rattle.core_meaning.specs.Matching.{matched_all, count_patterns}
+use Rattle.core_meaning.specs.Matching.{matched_all}
 
 -- ---- what a run counts, and how it ends
 
@@ -231,10 +233,6 @@ primop f ts s r k =
 
 -- ---- applications
 
-abbrev pub count_arguments : Expressions → ℕ
-count_arguments no_expression = 0
-count_arguments (and_expression e es) = suc (count_arguments es)
-
 abbrev pub count_clauses : Clauses → ℕ
 count_clauses no_clause = 0
 count_clauses (and_clause p ps guard body cs) = suc (count_clauses cs)
@@ -307,22 +305,22 @@ module _ (program : Program) (limits : Limits) where
     eval call (Expression.Nil p) c s r k = k (nil ∷ []) (worked 1 s)
     eval call (Expression.Variable p x) c s r k = with_value (value_of x c) (worked 1 s) k
     eval call (Expression.Name p f) c s r k = makes_named limits (function_of f c) (worked 1 s) k
-    eval call (Expression.Tuple p parts) c s r k = eval_all call parts (part c) (worked (1 + count_arguments parts) s) r (λ ts s. builds limits (tuple_words (length ts)) s (λ s. k (tuple (terms ts) ∷ []) s))
+    eval call (Expression.Tuple p parts) c s r k = eval_all call parts (part c) (worked (1 + count parts) s) r (λ ts s. builds limits (tuple_words (length ts)) s (λ s. k (tuple (terms ts) ∷ []) s))
     eval call (Expression.Cons p parts tail) c s r k =
-        eval_all call parts (part c) (worked (2 + count_arguments parts) s) r (λ ts s. eval call tail (part (behind (funs_in_all parts) c)) s r (λ us s. with_one us s (λ u s. builds limits (list_words (length ts)) s (λ s. k (cells ts u ∷ []) s))))
-    eval call (Expression.Values p parts) c s r k = eval_all call parts (part c) (worked (1 + count_arguments parts) s) r k
+        eval_all call parts (part c) (worked (2 + count parts) s) r (λ ts s. eval call tail (part (behind (funs_in_all parts) c)) s r (λ us s. with_one us s (λ u s. builds limits (list_words (length ts)) s (λ s. k (cells ts u ∷ []) s))))
+    eval call (Expression.Values p parts) c s r k = eval_all call parts (part c) (worked (1 + count parts) s) r k
     eval call (Expression.Let p xs argument body) c s r k =
         eval call argument (part c) (worked (3 + length xs) s) r (λ ts s. with_count (length xs) ts s (eval call body (with (names xs) ts (behind (funs argument) c)) s r k))
     eval call (Expression.Case p argument cs) c s r k = eval call argument (part c) (worked (2 + count_clauses cs + tested_nodes cs) s) r (λ ts s. choose call cs ts (behind (funs argument) c) s r k)
     eval call (Expression.Lambda p q xs body) c s r k = makes_fun limits c.number (values_in c.bound (captured_by_fun c.scope (names xs) body)) (worked 2 s) k
     eval call (Expression.Letrec p ds body) c s r k = eval call body (with_functions ds c) (worked (2 + count_definitions ds) s) r k
     eval call (Expression.Apply p f args) c s r k =
-        elim (direct f (count_arguments args)) [
-          | Some g ↦ eval_all call args (part (behind (funs f) c)) (worked (2 + count_arguments args) s) r (λ ts s. applies_named call (function_of g c) ts c.depth s r k)
-          | None ↦ eval call f (part c) (worked (2 + count_arguments args) s) r (λ fs s. with_one fs s (λ t s. eval_all call args (part (behind (funs f) c)) s r (λ ts s. applies call t ts c.depth s r k)))
+        elim (direct f (count args)) [
+          | Some g ↦ eval_all call args (part (behind (funs f) c)) (worked (2 + count args) s) r (λ ts s. applies_named call (function_of g c) ts c.depth s r k)
+          | None ↦ eval call f (part c) (worked (2 + count args) s) r (λ fs s. with_one fs s (λ t s. eval_all call args (part (behind (funs f) c)) s r (λ ts s. applies call t ts c.depth s r k)))
         ]
-    eval call (Expression.Call p m f args) c s r k = eval_all call args (part c) (worked (1 + count_arguments args) s) r (λ ts s. calls call m f ts c.depth s r k)
-    eval call (Expression.Primop p f args) c s r k = eval_all call args (part c) (worked (1 + count_arguments args) s) r (λ ts s. primop f ts s r k)
+    eval call (Expression.Call p m f args) c s r k = eval_all call args (part c) (worked (1 + count args) s) r (λ ts s. calls call m f ts c.depth s r k)
+    eval call (Expression.Primop p f args) c s r k = eval_all call args (part c) (worked (1 + count args) s) r (λ ts s. primop f ts s r k)
     eval call (Expression.Try p tried xs body ys handler) c s r k =
         eval call tried (part c) (worked (4 + length xs + length ys) s)
         (λ class reason s. elim (causes class reason (length ys)) [ None ↦ ends Ending.stuck s | Some ts ↦ eval call handler (with (names ys) ts (behind (funs tried + funs body) c)) s r k ])
@@ -343,9 +341,9 @@ module _ (program : Program) (limits : Limits) where
         (elim (matched_all ps (terms ts)) [
           | None ↦ choose call cs ts (behind (funs guard + funs body) c) s r k
           | Some us ↦
-              eval call guard (part (with (variables_of_all ps) us c)) s
+              eval call guard (part (with (bound_by ps) us c)) s
               (λ class reason s. choose call cs ts (behind (funs guard + funs body) c) s r k)
-              (λ gs s. with_one gs s (λ g s. elim (is_true g) [ true ↦ eval call body (with (variables_of_all ps) us (behind (funs guard) c)) s r k | false ↦ choose call cs ts (behind (funs guard + funs body) c) s r k ]))
+              (λ gs s. with_one gs s (λ g s. elim (is_true g) [ true ↦ eval call body (with (bound_by ps) us (behind (funs guard) c)) s r k | false ↦ choose call cs ts (behind (funs guard + funs body) c) s r k ]))
         ])
 
   -- ---- functions

@@ -5,7 +5,7 @@ use Rattle.hipe_terms.specs.declared.place.Place.{Place}
 use Rattle.core_ast.specs.declared.tree.FunName.{FunName}
 use Rattle.core_ast.specs.Trees.{Expression, Expressions, no_expression, and_expression, Clauses, no_clause, and_clause, Definitions, no_definition, and_definition, Module}
 use Rattle.core_ast.specs.Nodes.{expression_nodes, frame_of}
-use Rattle.core_meaning.specs.Scopes.{Known, Scope, names, binding, variables_of_all, count_definitions, defined, captured_by_fun, captured_by_group, carried, funs, funs_in_all, funs_in_clauses, funs_in_definitions, letrec_scope, group_scope}
+use Rattle.core_meaning.specs.Scopes.{Known, Scope, names, binding, bound_by, count_definitions, function_names, captured_by_fun, captured_by_group, carried, funs, funs_in_all, funs_in_clauses, funs_in_definitions, letrec_scope, group_scope}
 
 -- a function: its parameters, its body, the scope that it captured with the number of its variables, and the number of the first fun in its body
 pub record Procedure : Type 0 where
@@ -65,8 +65,8 @@ abbrev mutual
   pub procedures_in_clauses : Scope → (slots n : ℕ) → Clauses → List Procedure
   procedures_in_clauses s k n no_clause = []
   procedures_in_clauses s k n (and_clause p ps guard body cs) =
-      procedures (binding k (variables_of_all ps) s) (k + length (variables_of_all ps)) n guard
-      ++ procedures (binding k (variables_of_all ps) s) (k + length (variables_of_all ps)) (n + funs guard) body
+      procedures (binding k (bound_by ps) s) (k + length (bound_by ps)) n guard
+      ++ procedures (binding k (bound_by ps) s) (k + length (bound_by ps)) (n + funs guard) body
       ++ procedures_in_clauses s k (n + (funs guard + funs body)) cs
 
   -- the functions of a `letrec`, each before those in its body
@@ -110,4 +110,4 @@ pub record Program : Type 0 where
   pub procedures : List Procedure
 
 abbrev pub program_of : Module → Program
-program_of m = record { name = m.name; exports = map (λ e. e.0) m.exports; own = defined m.definitions; procedures = module_procedures m.definitions }
+program_of m = record { name = m.name; exports = map (λ e. e.0) m.exports; own = function_names m.definitions; procedures = module_procedures m.definitions }

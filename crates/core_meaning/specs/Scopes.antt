@@ -7,7 +7,8 @@ use Rattle.std.specs.List.{filter, list_any}
 use Rattle.std.specs.Map.{lookup}
 use Rattle.core_ast.specs.declared.pattern.Var.{Var}
 use Rattle.core_ast.specs.declared.tree.FunName.{FunName}
-use Rattle.core_ast.specs.Trees.{Pattern, Patterns, no_pattern, and_pattern, Expression, Expressions, no_expression, and_expression, Clauses, no_clause, and_clause, Definitions, no_definition, and_definition}
+use Rattle.core_ast.specs.Names.{is_named, defined, variables_of_all}
+use Rattle.core_ast.specs.Trees.{Patterns, Expression, Expressions, no_expression, and_expression, Clauses, no_clause, and_clause, Definitions, no_definition, and_definition}
 
 -- what a function's name stands for: the function's number, and the slots of the variables that it captures
 pub record Known : Type 0 where
@@ -18,9 +19,6 @@ pub record Known : Type 0 where
 pub record Scope : Type 0 where
   pub variables : List (List ℕ × ℕ)
   pub functions : List (FunName × Known)
-
-abbrev pub is_named : FunName → FunName → Bool
-is_named f g = bytes_eq f.name g.name && f.arity == g.arity
 
 abbrev pub slot_of : List ℕ → Scope → Option ℕ
 slot_of x s = lookup (λ y. bytes_eq x y) s.variables
@@ -40,25 +38,13 @@ numbered k (x ∷ xs) = (x, k) ∷ numbered (suc k) xs
 abbrev pub binding : ℕ → List (List ℕ) → Scope → Scope
 binding k xs s = record { variables = numbered k xs ++ s.variables; functions = s.functions }
 
--- the variables of a pattern, in the order of the text
-abbrev mutual
-  pub variables_of : Pattern → List (List ℕ)
-  variables_of (Pattern.Variable p x) = x ∷ []
-  variables_of (Pattern.Int p n) = []
-  variables_of (Pattern.Atom p a) = []
-  variables_of (Pattern.Nil p) = []
-  variables_of (Pattern.Tuple p parts) = variables_of_all parts
-  variables_of (Pattern.Cons p parts tail) = variables_of_all parts ++ variables_of tail
-  variables_of (Pattern.Alias p x part) = x.name ∷ variables_of part
-
-  pub variables_of_all : Patterns → List (List ℕ)
-  variables_of_all no_pattern = []
-  variables_of_all (and_pattern p ps) = variables_of p ++ variables_of_all ps
+-- the names of the variables that patterns bind, in the order of the text
+abbrev pub bound_by : Patterns → List (List ℕ)
+bound_by ps = names (variables_of_all ps)
 
 -- the names of some functions
-abbrev pub defined : Definitions → List FunName
-defined no_definition = []
-defined (and_definition p f q xs body ds) = f ∷ defined ds
+abbrev pub function_names : Definitions → List FunName
+function_names ds = map (λ d. d.0) (defined ds)
 
 abbrev pub count_definitions : Definitions → ℕ
 count_definitions no_definition = 0
@@ -97,7 +83,7 @@ abbrev mutual
   occurring s (Expression.Let p xs values body) = occurring s values ++ occurring (hiding (names xs) s) body
   occurring s (Expression.Case p values cs) = occurring s values ++ occurring_in_clauses s cs
   occurring s (Expression.Lambda p q xs body) = occurring (hiding (names xs) s) body
-  occurring s (Expression.Letrec p ds body) = occurring_in_definitions (hiding_functions (defined ds) s) ds ++ occurring (hiding_functions (defined ds) s) body
+  occurring s (Expression.Letrec p ds body) = occurring_in_definitions (hiding_functions (function_names ds) s) ds ++ occurring (hiding_functions (function_names ds) s) body
   occurring s (Expression.Apply p f args) = occurring s f ++ occurring_in_all s args
   occurring s (Expression.Call p m f args) = occurring_in_all s args
   occurring s (Expression.Primop p f args) = occurring_in_all s args
@@ -111,7 +97,7 @@ abbrev mutual
 
   pub occurring_in_clauses : Scope → Clauses → List ℕ
   occurring_in_clauses s no_clause = []
-  occurring_in_clauses s (and_clause p ps guard body cs) = occurring (hiding (variables_of_all ps) s) guard ++ occurring (hiding (variables_of_all ps) s) body ++ occurring_in_clauses s cs
+  occurring_in_clauses s (and_clause p ps guard body cs) = occurring (hiding (bound_by ps) s) guard ++ occurring (hiding (bound_by ps) s) body ++ occurring_in_clauses s cs
 
   pub occurring_in_definitions : Scope → Definitions → List ℕ
   occurring_in_definitions s no_definition = []
@@ -128,7 +114,7 @@ captured_by_fun s xs body = first_occurrences (occurring (hiding xs s) body)
 
 -- what the functions of one `letrec` capture: one list for all their bodies
 abbrev pub captured_by_group : Scope → Definitions → List ℕ
-captured_by_group s ds = first_occurrences (occurring_in_definitions (hiding_functions (defined ds) s) ds)
+captured_by_group s ds = first_occurrences (occurring_in_definitions (hiding_functions (function_names ds) s) ds)
 
 -- inside a fun -----------------------------------------------------------------------------------------------------------------------
 
