@@ -1,5 +1,5 @@
 -- The plain tree that a tree shows, by what the tree is made of.
-use Rattle.std.proofs.Common.{◌≡◌, ℕ, List, map, refl, ap, ◌∙◌}
+use Rattle.std.proofs.Common.{◌≡◌, map, refl, ap, ◌∙◌}
 use Rattle.hipe_terms.specs.declared.place.Place.{Place}
 use Rattle.core_ast.specs.declared.pattern.Pattern as RustPattern
 use Rattle.core_ast.specs.declared.pattern.PatNode.{PatNode, out-PatNode}

@@ -2,7 +2,7 @@
 -- the funs inside it are among them. The module and the name of a `call` or `primop`, the parameters of funs and the
 -- variable of an alias are none.
 use Rattle.std.specs.Prelude.{ℕ, ◌+◌, ◌*◌, length}
-use Rattle.core_ast.specs.Trees.{Pattern, Patterns, no_pattern, and_pattern, Expression, Expressions, no_expression, and_expression, Clauses, no_clause, and_clause, Definitions, no_definition, and_definition, Clause, Function, Definition}
+use Rattle.core_ast.specs.Trees.{Pattern, Patterns, no_pattern, and_pattern, Expression, Expressions, no_expression, and_expression, Clauses, no_clause, and_clause, Definitions, no_definition, and_definition, Function}
 
 abbrev mutual
   pub pattern_nodes : Pattern → ℕ

@@ -1,19 +1,18 @@
 -- Two runs of one expression, under two limits. What holds of the states where they begin holds to the end, if the primitive steps keep it.
-use Rattle.std.proofs.Common.{◌≡◌, ℕ, zero, suc, ◌+◌, List, [], ◌∷◌, ◌++◌, Option, Some, None, refl}
+use Rattle.std.proofs.Common.{ℕ, ◌+◌, List, [], ◌∷◌, Option, Some, None}
 use Rattle.std.specs.Prelude.{Bool, true, false, if◌then◌else◌, nat_eq, length, codes, bytes_eq}
-use Rattle.hipe_terms.specs.Terms.{Term, integer, atom, nil, cons, tuple, fun, Terms, none, more, terms, listed, cells}
+use Rattle.hipe_terms.specs.Terms.{Term, integer, atom, nil, cons, tuple, fun, terms, listed, cells}
 use Rattle.hipe_terms.specs.Words.{list_words, tuple_words}
 use Rattle.hipe_terms.specs.Bifs.{built_in}
 use Rattle.hipe_terms.specs.Outcome.{Class, error, exit, throw, End, Outcome, bif_outcome}
-use Rattle.core_ast.specs.declared.tree.FunName.{FunName}
 use Rattle.core_ast.specs.Trees.{Expression, Expressions, no_expression, and_expression, Clauses, no_clause, and_clause}
 use Rattle.core_meaning.specs.Scopes.{names, bound_by, count_definitions, captured_by_fun, funs, funs_in_all}
-use Rattle.core_meaning.specs.Procedures.{Procedure, Program}
+use Rattle.core_meaning.specs.Procedures.{Program}
 use Rattle.core_meaning.specs.Matching.{matched_all}
 use Rattle.core_ast.specs.Degrees.{count, count_patterns}
-use Rattle.core_meaning.specs.Meaning.{State, Ending, Run, ends, Limits, Next, Handler, Calls, worked, printing, builds, Context, part, behind, with, with_functions, value_of, values_in, function_of, pair, fails, with_one, with_count, with_value, class_of, is_true, no_clause_for, makes_fun, makes_named, caught, causes, raises_as, raise, is_function_clause, match_fail, build_stacktrace, primop, count_clauses, tested_nodes, direct, arity_of, own_function, applies_named, comes_to, performs, applies, calls_own, calls, eval, eval_all, choose}
+use Rattle.core_meaning.specs.Meaning.{State, Ending, Run, ends, Limits, Next, Handler, Calls, worked, printing, builds, Context, part, behind, with, with_functions, value_of, values_in, function_of, fails, with_one, with_count, with_value, class_of, is_true, no_clause_for, makes_fun, makes_named, caught, causes, raises_as, raise, is_function_clause, match_fail, build_stacktrace, primop, count_clauses, tested_nodes, direct, arity_of, own_function, applies_named, comes_to, performs, applies, calls_own, calls, eval, eval_all, choose}
 use Rattle.core_meaning.specs.Laws.{Grown, NextGrows, HandlerGrows}
-use Rattle.core_meaning.proofs.Growth.{grown_refl, grown_then, CallGrows, built_later, worked_later, printing_later, bool_grows, cond_grows, option_grows, builds_grow, one_grows, count_grows, value_grows, no_clause_grows, fun_grows, named_grows, caught_grows, primop_grows, comes_to_grows, performs_grows, applies_grows, applies_named_grows, calls_grows, grows, all_grow, choose_grows}
+use Rattle.core_meaning.proofs.Growth.{grown_refl, CallGrows, bool_grows, option_grows, builds_grow, one_grows, count_grows, caught_grows, primop_grows, comes_to_grows, applies_grows, applies_named_grows, calls_grows, grows, all_grow, choose_grows}
 
 -- the same place at other depths
 abbrev pub moved : ℕ → ℕ → Context → Context

@@ -1,18 +1,17 @@
 -- How deep applications may go: fuel bounds it, so every bound that is at least the fuel gives the same run.
-use Rattle.std.proofs.Common.{◌≡◌, ℕ, zero, suc, ◌+◌, ◌<◌, ◌≤◌, List, [], ◌∷◌, Option, Some, None, refl, sym, ap, ◌∙◌, subst, arith}
-use Rattle.std.specs.Prelude.{Bool, true, false, if◌then◌else◌, length, slice_get, sum, map}
+use Rattle.std.proofs.Common.{◌≡◌, ℕ, zero, suc, ◌+◌, ◌≤◌, List, [], Option, Some, None, refl, sym, ap, ◌∙◌, subst, arith}
+use Rattle.std.specs.Prelude.{Bool, true, false, length, slice_get, sum, map}
 use Rattle.std.proofs.lemmas.Bool.{false≢true}
 use Rattle.hipe_terms.specs.declared.constant.Call.{Call}
 use Rattle.hipe_terms.specs.Terms.{Term, term_of}
 use Rattle.hipe_terms.specs.Words.{words_of}
-use Rattle.hipe_terms.specs.Outcome.{Class}
-use Rattle.core_ast.specs.Trees.{Expression, Expressions, Clauses, Module}
+use Rattle.core_ast.specs.Trees.{Module}
 use Rattle.core_meaning.specs.Procedures.{Procedure, Program, program_of}
-use Rattle.core_meaning.specs.Meaning.{State, Ending, Run, ends, Limits, Next, Handler, Calls, Context, passes, worked, printing, entering, builds, exported, eval, eval_all, choose, at_entry, enters, calls_within}
+use Rattle.core_meaning.specs.Meaning.{State, Ending, Run, ends, Limits, Next, Handler, Calls, passes, worked, printing, entering, builds, exported, at_entry, enters, calls_within}
 use Rattle.core_meaning.specs.Source.{unlimited, at_start, called_name, starts, source_run}
-use Rattle.core_meaning.specs.Laws.{Grown, NextGrows, HandlerGrows}
-use Rattle.core_meaning.proofs.Growth.{grown_refl, CallGrows, calls_within_grow}
-use Rattle.core_meaning.proofs.Alike.{moved, Handlers, Nexts, CallsAlike, Steps, cond_alike, count_alike, alike, all_alike, choose_alike}
+use Rattle.core_meaning.specs.Laws.{NextGrows, HandlerGrows}
+use Rattle.core_meaning.proofs.Growth.{grown_refl, calls_within_grow}
+use Rattle.core_meaning.proofs.Alike.{Handlers, Nexts, CallsAlike, Steps, cond_alike, count_alike, alike}
 
 -- the same state, with so much fuel at most
 abbrev pub Equal : ℕ → State → State → Type 0

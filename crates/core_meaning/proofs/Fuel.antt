@@ -1,17 +1,16 @@
 -- What more fuel changes.
-use Rattle.std.proofs.Common.{◌≡◌, ℕ, zero, suc, ◌+◌, ◌<◌, ◌≤◌, List, [], ◌∷◌, ◌++◌, Option, Some, None, refl, sym, ap, ◌∙◌, subst, arith}
-use Rattle.std.specs.Prelude.{Bool, true, false, if◌then◌else◌, nat_eq, max, length, slice_get, sum, map, codes}
+use Rattle.std.proofs.Common.{◌≡◌, ℕ, zero, suc, ◌+◌, ◌≤◌, List, [], Option, Some, None, refl, sym, ap, ◌∙◌, subst, arith}
+use Rattle.std.specs.Prelude.{length, slice_get, sum, map}
 use Rattle.hipe_terms.specs.declared.constant.Call.{Call}
 use Rattle.hipe_terms.specs.Terms.{Term, term_of}
 use Rattle.hipe_terms.specs.Words.{words_of}
-use Rattle.hipe_terms.specs.Outcome.{Class}
 use Rattle.core_ast.specs.Trees.{Module}
 use Rattle.core_meaning.specs.Procedures.{Procedure, Program, program_of}
-use Rattle.core_meaning.specs.Meaning.{State, Ending, Run, ends, Limits, Next, Handler, Calls, passes, worked, printing, entering, builds, with_count, exported, eval, at_entry, enters, calls_within}
-use Rattle.core_meaning.specs.Source.{unlimited, at_start, called_name, starts, run_within, source_run}
-use Rattle.core_meaning.specs.Laws.{Prefix, Later, Grown, NextGrows, HandlerGrows, Agrees, same, spent}
-use Rattle.core_meaning.proofs.Growth.{grown_refl, grown_then, CallGrows, spent_later, fuel_grows, enters_grows, calls_within_grow}
-use Rattle.core_meaning.proofs.Alike.{moved, Handlers, Nexts, CallsAlike, Steps, cond_alike, count_alike, alike}
+use Rattle.core_meaning.specs.Meaning.{State, Ending, Run, ends, Limits, Next, Handler, Calls, passes, worked, printing, entering, builds, exported, at_entry, enters, calls_within}
+use Rattle.core_meaning.specs.Source.{unlimited, at_start, called_name, starts, source_run}
+use Rattle.core_meaning.specs.Laws.{Later, Grown, Agrees, same, spent}
+use Rattle.core_meaning.proofs.Growth.{grown_refl, grown_then, spent_later, fuel_grows, enters_grows, calls_within_grow}
+use Rattle.core_meaning.proofs.Alike.{Handlers, Nexts, CallsAlike, Steps, cond_alike, count_alike, alike}
 
 -- the same but for fuel, of which the second has so much more
 abbrev More : ℕ → State → State → Type 0

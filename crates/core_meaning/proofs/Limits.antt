@@ -1,18 +1,18 @@
 -- The run under limits, and the whole run.
-use Rattle.std.proofs.Common.{◌≡◌, ℕ, zero, suc, ◌+◌, ◌<◌, ◌≤◌, List, [], ◌∷◌, ◌++◌, Option, Some, None, refl, sym, ap, ◌∙◌, subst, arith}
+use Rattle.std.proofs.Common.{◌≡◌, ℕ, zero, suc, ◌+◌, ◌<◌, ◌≤◌, List, [], ◌++◌, Option, Some, None, refl, sym, ap, subst, arith}
 use Rattle.std.specs.Prelude.{Bool, true, false, if◌then◌else◌, nat_lt, max, length, slice_get, sum, map, codes}
 use Rattle.std.proofs.lemmas.Bool.Decides.{nat_tests}
 use Rattle.hipe_terms.specs.declared.constant.Call.{Call}
 use Rattle.hipe_terms.specs.Terms.{Term, atom, term_of}
 use Rattle.hipe_terms.specs.Words.{words_of}
-use Rattle.hipe_terms.specs.Outcome.{Class, error}
+use Rattle.hipe_terms.specs.Outcome.{error}
 use Rattle.core_ast.specs.Trees.{Module}
 use Rattle.core_meaning.specs.Procedures.{Procedure, Program, program_of}
-use Rattle.core_meaning.specs.Meaning.{State, Ending, Run, ends, Limits, Next, Handler, Calls, passes, worked, printing, entering, builds, exported, eval, at_entry, enters, calls_within}
+use Rattle.core_meaning.specs.Meaning.{State, Ending, Run, ends, Limits, Next, Handler, Calls, entering, builds, exported, eval, at_entry, enters, calls_within}
 use Rattle.core_meaning.specs.Source.{unlimited, at_start, called_name, starts, run_within, source_run}
-use Rattle.core_meaning.specs.Laws.{Prefix, Later, Grown, NextGrows, HandlerGrows, IsPlain, Within, same, heap_full, stack_full, limited}
-use Rattle.core_meaning.proofs.Growth.{grown_refl, grown_then, CallGrows, entered_later, grows, enters_grows, calls_within_grow}
-use Rattle.core_meaning.proofs.Alike.{moved, Handlers, Nexts, CallsAlike, Steps, cond_alike, count_alike, alike}
+use Rattle.core_meaning.specs.Laws.{Prefix, Grown, IsPlain, Within, same, heap_full, stack_full, limited}
+use Rattle.core_meaning.proofs.Growth.{grown_refl, grows, enters_grows, calls_within_grow}
+use Rattle.core_meaning.proofs.Alike.{Handlers, Nexts, CallsAlike, Steps, count_alike, alike}
 
 -- by whether a test holds
 by_test : {P : Type 0} (b : Bool) → (b ≡ true → P) → (b ≡ false → P) → P

@@ -1,18 +1,17 @@
 -- Runs of small modules, worked by hand.
-use Rattle.std.proofs.Common.{◌≡◌, ℕ, ℤ, pos, neg_ℤ, List, [], ◌∷◌, map, length, refl}
+use Rattle.std.proofs.Common.{◌≡◌, ℕ, pos, neg_ℤ, List, [], ◌∷◌, map, length, refl}
 use Rattle.std.specs.Prelude.{codes}
 use Rattle.hipe_terms.specs.declared.place.Place.{Place}
-use Rattle.hipe_terms.specs.Terms.{Term, integer, atom, nil, cons, tuple, fun, Terms, none, more, terms}
+use Rattle.hipe_terms.specs.Terms.{Term, integer, atom, nil, cons, tuple, fun, none, more, terms}
 use Rattle.hipe_terms.specs.Bifs.{built_in}
-use Rattle.hipe_terms.specs.Outcome.{Class, error, exit, throw}
+use Rattle.hipe_terms.specs.Outcome.{Class, error, throw}
 use Rattle.core_ast.specs.declared.pattern.Var.{Var}
 use Rattle.core_ast.specs.declared.tree.FunName.{FunName}
-use Rattle.core_ast.specs.Trees.{Pattern, Patterns, no_pattern, and_pattern, patterns, Expression, Expressions, no_expression, and_expression, expressions, Clauses, no_clause, and_clause, Clause, clauses, Definitions, Definition, Function, definitions, Module}
-use Rattle.core_meaning.specs.Procedures.{Program, program_of}
-use Rattle.core_meaning.specs.Meaning.{State, Ending, Run, ends, Limits, exported, builds, with_one, with_count, with_value, no_clause_for, makes_fun, caught, primop, performs, applies, calls, applies_named}
+use Rattle.core_ast.specs.Trees.{Pattern, patterns, Expression, expressions, Clause, clauses, Definition, definitions, Module}
+use Rattle.core_meaning.specs.Procedures.{program_of}
+use Rattle.core_meaning.specs.Meaning.{Ending, Run, Limits, exported, builds, with_one, with_count, with_value, no_clause_for, makes_fun, caught, primop, performs, applies, calls, applies_named}
 use Rattle.core_meaning.specs.Source.{unlimited, starts}
 use Rattle.core_meaning.specs.Laws.{limited}
-use Rattle.std.specs.Prelude.{Option, Some, None}
 
 abbrev here : Place
 here = record { line = 1; col = 1 }

@@ -1,7 +1,7 @@
 -- Whether a pattern matches a term, and what its variables are then bound to.
-use Rattle.std.specs.Prelude.{ℕ, suc, ℤ, Bool, true, false, if◌then◌else◌, List, [], ◌∷◌, ◌++◌, Option, Some, None, option_map, bytes_eq}
+use Rattle.std.specs.Prelude.{ℕ, ℤ, Bool, true, false, if◌then◌else◌, List, [], ◌∷◌, ◌++◌, Option, Some, None, option_map, bytes_eq}
 use Rattle.std.specs.Ordering.{int_eq}
-use Rattle.hipe_terms.specs.Terms.{Term, integer, atom, nil, cons, tuple, fun, Terms, none, more}
+use Rattle.hipe_terms.specs.Terms.{Term, integer, atom, nil, cons, tuple, Terms, none, more}
 use Rattle.core_ast.specs.Trees.{Pattern, Patterns, no_pattern, and_pattern}
 
 -- what the variables are bound to, in the order of the text, where the pattern matches

@@ -2,14 +2,14 @@
 --
 -- The meaning of each construct says what comes next with its values, and what comes next where a class is raised. It is the meaning with
 -- limits on the heap and the stack, and where no limit is given it is the whole meaning.
-use Rattle.std.specs.Prelude.{ℕ, zero, suc, ◌+◌, ◌*◌, ◌==◌, max, nat_lt, Bool, true, false, if◌then◌else◌, List, [], ◌∷◌, ◌++◌, length, codes, slice_get, Option, Some, None, bytes_eq}
+use Rattle.std.specs.Prelude.{ℕ, zero, suc, ◌+◌, ◌==◌, max, nat_lt, Bool, true, false, if◌then◌else◌, List, [], ◌∷◌, ◌++◌, length, codes, slice_get, Option, Some, None, bytes_eq}
 use Rattle.std.specs.List.{list_any}
-use Rattle.hipe_terms.specs.Terms.{Term, integer, atom, nil, cons, tuple, fun, Terms, none, more, terms, listed, cells}
+use Rattle.hipe_terms.specs.Terms.{Term, integer, atom, nil, tuple, fun, more, terms, listed, cells}
 use Rattle.hipe_terms.specs.Bifs.{built_in}
 use Rattle.hipe_terms.specs.Words.{list_words, tuple_words}
 use Rattle.hipe_terms.specs.Outcome.{Class, error, exit, throw, End, Outcome, bif_outcome}
 use Rattle.core_ast.specs.declared.tree.FunName.{FunName}
-use Rattle.core_ast.specs.Trees.{Expression, Expressions, no_expression, and_expression, Clauses, no_clause, and_clause, Definitions, no_definition, and_definition}
+use Rattle.core_ast.specs.Trees.{Expression, Expressions, no_expression, and_expression, Clauses, no_clause, and_clause, Definitions}
 use Rattle.core_ast.specs.Nodes.{patterns_nodes}
 use Rattle.core_ast.specs.Names.{is_named}
 use Rattle.core_ast.specs.Degrees.{count, count_patterns}

@@ -1,11 +1,10 @@
 -- The functions of a module by their numbers. The module's own functions come first, in the order of the text, then the funs and the
 -- functions of each `letrec`, in the order of their `fun`.
-use Rattle.std.specs.Prelude.{ℕ, zero, suc, ◌+◌, List, [], ◌∷◌, ◌++◌, map, length, Option, Some, None}
-use Rattle.hipe_terms.specs.declared.place.Place.{Place}
+use Rattle.std.specs.Prelude.{ℕ, suc, ◌+◌, List, [], ◌∷◌, ◌++◌, map, length}
 use Rattle.core_ast.specs.declared.tree.FunName.{FunName}
 use Rattle.core_ast.specs.Trees.{Expression, Expressions, no_expression, and_expression, Clauses, no_clause, and_clause, Definitions, no_definition, and_definition, Module}
 use Rattle.core_ast.specs.Nodes.{expression_nodes, frame_of}
-use Rattle.core_meaning.specs.Scopes.{Known, Scope, names, binding, bound_by, count_definitions, function_names, captured_by_fun, captured_by_group, carried, funs, funs_in_all, funs_in_clauses, funs_in_definitions, letrec_scope, group_scope}
+use Rattle.core_meaning.specs.Scopes.{Known, Scope, names, binding, bound_by, count_definitions, function_names, captured_by_fun, captured_by_group, carried, funs, funs_in_all, funs_in_definitions, letrec_scope, group_scope}
 
 -- a function: its parameters, its body, the scope that it captured with the number of its variables, and the number of the first fun in its body
 pub record Procedure : Type 0 where

@@ -1,5 +1,5 @@
 -- What a call of a module's function means.
-use Rattle.std.specs.Prelude.{ℕ, ◌+◌, List, [], length, map, sum, codes, slice_get, Option, Some, None}
+use Rattle.std.specs.Prelude.{ℕ, List, [], length, map, sum, codes, slice_get, Option, Some, None}
 use Rattle.hipe_terms.specs.declared.constant.Call.{Call}
 use Rattle.hipe_terms.specs.Terms.{Term, atom, term_of}
 use Rattle.hipe_terms.specs.Words.{words_of}
