@@ -1,6 +1,6 @@
 -- Runs of small modules, worked by hand.
 use Rattle.std.proofs.Common.{◌≡◌, ℕ, pos, neg_ℤ, List, [], ◌∷◌, map, length, refl}
-use Rattle.std.specs.Prelude.{codes}
+use Rattle.std.specs.Prelude.{codes, Option, Some, None}
 use Rattle.hipe_terms.specs.declared.place.Place.{Place}
 use Rattle.hipe_terms.specs.Terms.{Term, integer, atom, nil, cons, tuple, fun, none, more, terms}
 use Rattle.hipe_terms.specs.Bifs.{built_in}
@@ -10,6 +10,8 @@ use Rattle.core_ast.specs.declared.tree.FunName.{FunName}
 use Rattle.core_ast.specs.Trees.{Pattern, patterns, Expression, expressions, Clause, clauses, Definition, definitions, Module}
 use Rattle.core_meaning.specs.Procedures.{program_of}
 use Rattle.core_meaning.specs.Meaning.{Ending, Run, Limits, exported, builds, with_one, with_count, with_value, no_clause_for, makes_fun, caught, primop, performs, applies, calls, applies_named}
+use Rattle.hipe_terms.specs.Shown.{Names}
+use Rattle.core_meaning.specs.Output.{shown_names, printed_lines, result_line}
 use Rattle.core_meaning.specs.Source.{unlimited, starts}
 use Rattle.core_meaning.specs.Laws.{limited}
 
@@ -323,3 +325,30 @@ factorial_of_ten = (refl, refl, refl)
 factorial_of_an_atom : Ends (factorial_of (word (codes "a"))) (failing (codes "badarith")) 0 136
 unfolding builds with_one with_count with_value no_clause_for makes_fun caught primop performs applies calls applies_named built_in
 factorial_of_an_atom = (refl, refl, refl)
+
+-- ---- the texts of runs
+
+abbrev names_in : Module → Names
+names_in m = shown_names (program_of m)
+
+abbrev displays : Expression → Module
+displays e = main (call (codes "display") (e ∷ []))
+
+what_is_displayed : printed_lines (names_in (displays (an_atom (codes "a b")))) (run (displays (an_atom (codes "a b"))) 9).state.printed ≡ codes "'a b'\n"
+unfolding builds with_one with_count with_value no_clause_for makes_fun caught primop performs applies calls applies_named built_in lib.Utf8.encode
+what_is_displayed = refl
+
+its_result : result_line (names_in (displays nothing)) (run (displays nothing) 9).ending ≡ Some (codes "value 'true'\n")
+unfolding builds with_one with_count with_value no_clause_for makes_fun caught primop performs applies calls applies_named built_in lib.Utf8.encode
+its_result = refl
+
+abbrev throws : Module
+throws = main (call (codes "throw") (a_tuple (an_atom (codes "x") ∷ nothing ∷ []) ∷ []))
+
+what_is_thrown : result_line (names_in throws) (run throws 9).ending ≡ Some (codes "throw {'x',[]}\n")
+unfolding builds with_one with_count with_value no_clause_for makes_fun caught primop performs applies calls applies_named built_in lib.Utf8.encode
+what_is_thrown = refl
+
+no_line : result_line (names_in (sum_of 5)) (run (sum_of 5) 3).ending ≡ None
+unfolding builds with_one with_count with_value no_clause_for makes_fun caught primop performs applies calls applies_named built_in lib.Utf8.encode
+no_line = refl

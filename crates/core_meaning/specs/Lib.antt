@@ -5,3 +5,4 @@ pub mod Matching
 pub mod Meaning
 pub mod Source
 pub mod Laws
+pub mod Output
