@@ -1,0 +1,4 @@
+pub mod Basics
+pub mod Terms
+pub mod BuiltIns
+pub mod Matched
