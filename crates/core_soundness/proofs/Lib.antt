@@ -2,3 +2,5 @@ pub mod Basics
 pub mod Terms
 pub mod BuiltIns
 pub mod Matched
+pub mod Lists
+pub mod Scopes

@@ -30,10 +30,6 @@ module _ (program : Program) where
   alias_binds n t None g h = tt
   alias_binds n t (Some ts) g h = ((g, h.0), ap suc h.1)
 
-  IfElements : Option Terms → Type 0
-  IfElements None = Unit {0}
-  IfElements (Some ts) = GoodTerms program ts
-
   elements_binds : (n : ℕ) (f : Terms → Match) (t : Term) → GoodTerm program t → ((ts : Terms) → GoodTerms program ts → Binds n (f ts)) → Binds n (elim (elements_of t) [ None ↦ None | Some ts ↦ f ts ])
   elements_binds n f (tuple ts) g h = h ts g
   elements_binds n f (integer i) g h = tt
