@@ -4,3 +4,4 @@ pub mod BuiltIns
 pub mod Matched
 pub mod Lists
 pub mod Scopes
+pub mod Fine
