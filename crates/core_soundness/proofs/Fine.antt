@@ -103,10 +103,6 @@ suits : (d : Option ℕ) (n : ℕ) (p : Place) → (if fits d n then [] else p �
 suits None n p is = none_within (Some n)
 suits (Some m) n p is = number_suits (m == n) m n p refl is
 
--- the needs that fit
-Fit : List Need → Type 0
-Fit needs = misfits needs ≡ []
-
 first_suits : (e : Expression) (n : ℕ) (needs : List Need) → misfits ((e, n) ∷ needs) ≡ [] → Suits (degree_of e) n
 first_suits e n needs is = suits (degree_of e) n (place_of e) (empty_left (misfit (e, n)) (misfits needs) is)
 

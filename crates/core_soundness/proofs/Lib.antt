@@ -5,3 +5,4 @@ pub mod Matched
 pub mod Lists
 pub mod Scopes
 pub mod Fine
+pub mod Captured

@@ -53,19 +53,19 @@ module _ {K X : Type 0} (P : K × X → Type 0) (test : K → Bool) where
   each_found [] x g is = absurd (not_some is)
   each_found (e ∷ es) x g is = cond_found (test e.0) e (lookup test es) x refl g.0 (each_found es x g.1) is
 
-module _ {K X : Type 0} (test : K → Bool) where
-  cond_listed : (b : Bool) (x : X) (o : Option X) (c : Bool) → (c ≡ true → IsFound o) → (b || c) ≡ true → IsFound (if b then Some x else o)
-  cond_listed true x o c f is = (x, refl)
-  cond_listed false x o c f is = f is
+pub cond_listed : {X : Type 0} (b : Bool) (x : X) (o : Option X) (c : Bool) → (c ≡ true → IsFound o) → (b || c) ≡ true → IsFound (if b then Some x else o)
+cond_listed true x o c f is = (x, refl)
+cond_listed false x o c f is = f is
 
+cond_found_listed : {X : Type 0} (b : Bool) (x : X) (o : Option X) (c : Bool) → (IsFound o → c ≡ true) → IsFound (if b then Some x else o) → (b || c) ≡ true
+cond_found_listed true x o c f is = refl
+cond_found_listed false x o c f is = f is
+
+module _ {K X : Type 0} (test : K → Bool) where
   -- a key that is listed is found
   pub listed_found : (es : List (K × X)) → list_any test (map (λ e. e.0) es) ≡ true → IsFound (lookup test es)
   listed_found [] is = absurd (not_true is)
   listed_found (e ∷ es) is = cond_listed (test e.0) e.1 (lookup test es) (list_any test (map (λ e. e.0) es)) (listed_found es) is
-
-  cond_found_listed : (b : Bool) (x : X) (o : Option X) (c : Bool) → (IsFound o → c ≡ true) → IsFound (if b then Some x else o) → (b || c) ≡ true
-  cond_found_listed true x o c f is = refl
-  cond_found_listed false x o c f is = f is
 
   pub found_listed : (es : List (K × X)) → IsFound (lookup test es) → list_any test (map (λ e. e.0) es) ≡ true
   found_listed [] is = absurd (not_some is.1)
