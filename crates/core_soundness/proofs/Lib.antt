@@ -6,3 +6,5 @@ pub mod Lists
 pub mod Scopes
 pub mod Fine
 pub mod Captured
+pub mod Numbers
+pub mod Functions
