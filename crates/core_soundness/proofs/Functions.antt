@@ -101,7 +101,7 @@ module _ (program : Program) where
         placed = p;
       }
 
-  defined_good : (n : Names) (s : Scope) (c i : ℕ) (xs : List Var) (b : Expression) → Suits (degree_of b) 1 → Fine (with_variables xs n) b → Sited n s c → Placed program i (procedures (binding c (names xs) s) (c + length xs) i b)
+  pub defined_good : (n : Names) (s : Scope) (c i : ℕ) (xs : List Var) (b : Expression) → Suits (degree_of b) 1 → Fine (with_variables xs n) b → Sited n s c → Placed program i (procedures (binding c (names xs) s) (c + length xs) i b)
       → GoodProcedure (record { parameters = names xs; body = b; scope = s; captured = c; first = i })
   defined_good n s c i xs b one f w p =
       record { names = with_variables xs n; fine = f; one = one; sited = clause_sited n s c xs w; placed = subst (λ m. Placed program i (procedures (binding c (names xs) s) (c + m) i b)) (sym (length_names xs)) p }
@@ -110,7 +110,7 @@ module _ (program : Program) where
   join ps qs g h = each_append GoodProcedure ps qs g h
 
   mutual
-    good : (n : Names) (s : Scope) (k i : ℕ) (e : Expression) → Fine n e → Sited n s k → Placed program i (procedures s k i e) → Each GoodProcedure (procedures s k i e)
+    pub good : (n : Names) (s : Scope) (k i : ℕ) (e : Expression) → Fine n e → Sited n s k → Placed program i (procedures s k i e) → Each GoodProcedure (procedures s k i e)
     good n s k i (Expression.Int a b) f w p = tt
     good n s k i (Expression.Atom a b) f w p = tt
     good n s k i (Expression.Nil a) f w p = tt

@@ -8,3 +8,4 @@ pub mod Fine
 pub mod Captured
 pub mod Numbers
 pub mod Functions
+pub mod Modules

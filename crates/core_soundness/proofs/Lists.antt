@@ -39,6 +39,16 @@ module _ {A : Type 0} (P : A → Type 0) where
   each_weaker Q f [] g = tt
   each_weaker Q f (x ∷ xs) g = (f x g.0, each_weaker Q f xs g.1)
 
+  pub each_get : (xs : List A) (i : ℕ) (x : A) → Each P xs → slice_get xs i ≡ Some x → P x
+  each_get [] i x g is = absurd (not_some is)
+  each_get (y ∷ xs) zero x g is = subst P (some_same y x is) g.0
+  each_get (y ∷ xs) (suc i) x g is = each_get xs i x g.1 is
+
+pub get_found : {A : Type 0} (xs : List A) (i : ℕ) → i < length xs → IsFound (slice_get xs i)
+get_found [] i lt = absurd (let no_slot : ⊥ = omega (arith, lt) in no_slot)
+get_found (x ∷ xs) zero lt = (x, refl)
+get_found (x ∷ xs) (suc i) lt = get_found xs i (omega (arith, lt))
+
 -- ---- look-ups
 
 module _ {K X : Type 0} (P : K × X → Type 0) (test : K → Bool) where

@@ -41,7 +41,7 @@ arity_named f g is = same_numbers f.arity g.arity (both_parts (bytes_eq f.name g
 abbrev SlotBelow : ℕ → List ℕ × ℕ → Type 0
 SlotBelow k v = v.1 < k
 
-abbrev SlotsBelow : ℕ → FunName × Known → Type 0
+abbrev pub SlotsBelow : ℕ → FunName × Known → Type 0
 SlotsBelow k f = AllBelow k (f.1).captured
 
 -- all slots that a scope speaks of are below
