@@ -9,3 +9,4 @@ pub mod Captured
 pub mod Numbers
 pub mod Functions
 pub mod Modules
+pub mod Steps

@@ -63,7 +63,7 @@ module _ (program : Program) where
   among_stands i n f no_definition h is = absurd (not_some is)
   among_stands i n f (and_definition a g q xs b ds) h is = number_stands i n f g (is_named f g) (number_among (suc i) f (function_names ds)) refl h.0 (λ is. among_stands (suc i) n f ds h.1 is) is
 
-if_there : (b : Bool) (o : Option ℕ) (n : ℕ) → (if b then o else None) ≡ Some n → o ≡ Some n
+pub if_there : (b : Bool) (o : Option ℕ) (n : ℕ) → (if b then o else None) ≡ Some n → o ≡ Some n
 if_there true o n is = is
 if_there false o n is = absurd (not_some is)
 
