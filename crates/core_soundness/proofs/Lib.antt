@@ -10,3 +10,4 @@ pub mod Numbers
 pub mod Functions
 pub mod Modules
 pub mod Steps
+pub mod Runs
