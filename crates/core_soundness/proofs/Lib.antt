@@ -11,3 +11,4 @@ pub mod Functions
 pub mod Modules
 pub mod Steps
 pub mod Runs
+pub mod NeverStuck
