@@ -1,14 +1,14 @@
 -- The built-in functions make good terms of good terms, and raise with good ones.
-use Rattle.std.proofs.Common.{◌≡◌, ℕ, zero, suc, ◌+◌, List, [], ◌∷◌, ◌++◌, Option, Some, None, refl, sym, ap, ◌∙◌, subst, arith}
-use Rattle.std.specs.Prelude.{ℤ, pos, negsuc, neg_ℤ, ◌+ℤ◌, ◌-ℤ◌, ◌*ℤ◌, int_div, int_rem, Bool, true, false, not, ◌&&◌, ◌||◌, if◌then◌else◌, is_some, option_map, length, codes}
-use Rattle.std.specs.Int.{int_bit_and, int_bit_or, int_bit_xor, int_bit_not, w64}
+use Rattle.std.proofs.Common.{ℕ, zero, suc, List, [], ◌∷◌, Option, Some, None}
+use Rattle.std.specs.Prelude.{ℤ, pos, neg_ℤ, ◌+ℤ◌, ◌-ℤ◌, ◌*ℤ◌, int_div, int_rem, Bool, true, false, not, ◌&&◌, ◌||◌, if◌then◌else◌, is_some, option_map, length}
+use Rattle.std.specs.Int.{int_bit_and, int_bit_or, int_bit_xor, w64}
 use Rattle.std.specs.Ordering.{int_eq, is_eq, is_lt, is_gt}
-use Rattle.hipe_terms.specs.Terms.{Term, integer, atom, nil, cons, tuple, fun, Terms, none, more, count, cells}
+use Rattle.hipe_terms.specs.Terms.{Term, integer, atom, nil, cons, tuple, fun, Terms, none, more, count}
 use Rattle.hipe_terms.specs.Order.{order}
 use Rattle.hipe_terms.specs.Range.{is_in_range}
 use Rattle.hipe_terms.specs.declared.bif.Bif.{Bif}
 use Rattle.hipe_terms.specs.declared.bif.Bif.TheVariants.{Add, Subtract, Multiply, Negate, Divide, Remainder, BitAnd, BitOr, BitXor, BitNot, ShiftLeft, ShiftRight, Equal, NotEqual, ExactlyEqual, ExactlyNotEqual, LessThan, AtMost, GreaterThan, AtLeast, And, Or, Not, IsInteger, IsNumber, IsAtom, IsBoolean, IsList, IsTuple, IsFunction, IsFunctionOfArity, Head, Tail, Length, Append, Element, SetElement, TupleSize, Error, Throw, Exit, Display}
-use Rattle.hipe_terms.specs.Outcome.{Class, error, exit, throw, End, Outcome, builds, gives, raises, badarith, badarg, system_limit, undef, number, boolean_term, truth, arithmetic, negated, divided, remainder, bitwise, bits_turned, shifted_left, shifted_right, boolean_of, boolean_at, boolean, negation_at, negation, is_integer, is_atom, is_list, is_tuple, is_fun, has_arity_at, has_arity, head, tail, elements, length_at, length_of, appended_at, appended, nth, with_nth, element_at, element, element_set_at, element_set, size_of, displayed, unary, binary, ternary, bif_outcome}
+use Rattle.hipe_terms.specs.Outcome.{Class, error, exit, throw, End, Outcome, gives, raises, badarith, system_limit, number, truth, arithmetic, negated, divided, remainder, bitwise, bits_turned, shifted_left, shifted_right, boolean_of, boolean_at, boolean, negation_at, negation, is_integer, is_atom, is_list, is_tuple, is_fun, has_arity_at, has_arity, head, tail, elements, length_at, length_of, appended_at, appended, nth, with_nth, element_at, element, element_set_at, element_set, size_of, displayed, unary, binary, ternary, bif_outcome}
 use Rattle.core_meaning.specs.Procedures.{Program}
 use Rattle.core_soundness.proofs.Terms.{GoodTerm, GoodTerms, AllGood, cells_good}
 

@@ -1,14 +1,13 @@
 -- What a fun captures is enough: each name that its body speaks of is found in the scope inside it.
-use Rattle.std.proofs.Common.{◌≡◌, ℕ, zero, suc, ◌+◌, ◌<◌, ◌≤◌, List, [], ◌∷◌, ◌++◌, Option, Some, None, refl, sym, ap, ◌∙◌, subst, arith, inl, inr}
-use Rattle.std.specs.Prelude.{Bool, true, false, not, if◌then◌else◌, ◌||◌, ◌&&◌, ◌⊎◌, ◌==◌, length, map, bytes_eq}
-use Rattle.std.specs.List.{filter, list_any}
+use Rattle.std.proofs.Common.{◌≡◌, ℕ, suc, ◌+◌, List, [], ◌∷◌, ◌++◌, Option, Some, None, refl, sym, ap, ◌∙◌, subst, inl, inr}
+use Rattle.std.specs.Prelude.{Bool, true, false, if◌then◌else◌, ◌⊎◌, map, bytes_eq}
+use Rattle.std.specs.List.{list_any}
 use Rattle.std.specs.Map.{lookup}
 use Rattle.std.proofs.lemmas.List.Folds.{list_any-append}
 use Rattle.core_ast.specs.declared.pattern.Var.{Var}
 use Rattle.core_ast.specs.declared.tree.FunName.{FunName}
 use Rattle.core_ast.specs.Trees.{Expression, Expressions, no_expression, and_expression, Clauses, no_clause, and_clause, Definitions, no_definition, and_definition}
 use Rattle.core_ast.specs.Names.{Names, is_named, has_variable, has_function, with_variables, with_functions, defined, variables_of_all}
-use Rattle.core_ast.specs.Degrees.{degree_of}
 use Rattle.core_meaning.specs.Scopes.{Known, Scope, slot_of, known_of, names, numbered, binding, bound_by, function_names, hiding, hiding_functions, slot_if_any, slots_if_known, occurring, occurring_in_all, occurring_in_clauses, occurring_in_definitions, position, positions, carried_variable, carried_variables, carried_function, carried_functions, carried, numbered_functions, knowing, funs}
 use Rattle.core_meaning.specs.Procedures.{known_from, module_scope}
 use Rattle.core_soundness.proofs.Basics.{some_same, not_some, not_true, same_bytes}
@@ -163,25 +162,33 @@ module _ (captured : List ℕ) where
     narrow n s t (Expression.Tuple p es) c g f = narrow_all n s t es c g f
     narrow n s t (Expression.Cons p es e) c g f = (narrow_all n s t es c (left (occurring_in_all s es) (occurring s e) g) f.0, f.1, narrow n s t e c (right (occurring_in_all s es) (occurring s e) g) f.2)
     narrow n s t (Expression.Values p es) c g f = narrow_all n s t es c g f
-    narrow n s t (Expression.Let p xs a b) c g f =
-        (f.0, narrow n s t a c (left (occurring s a) (occurring (hiding (names xs) s) b) g) f.1,
-        narrow (with_variables xs n) (hiding (names xs) s) (with_variables xs t) b (binding_carries n s captured t xs c) (right (occurring s a) (occurring (hiding (names xs) s) b) g) f.2)
+    narrow n s t (Expression.Let p xs a b) c g f = (
+      f.0,
+      narrow n s t a c (left (occurring s a) (occurring (hiding (names xs) s) b) g) f.1,
+      narrow (with_variables xs n) (hiding (names xs) s) (with_variables xs t) b (binding_carries n s captured t xs c) (right (occurring s a) (occurring (hiding (names xs) s) b) g) f.2,
+    )
     narrow n s t (Expression.Case p a cs) c g f =
         (narrow n s t a c (left (occurring s a) (occurring_in_clauses s cs) g) f.0, narrow_clauses n s t _ _ cs c (right (occurring s a) (occurring_in_clauses s cs) g) f.1)
     narrow n s t (Expression.Lambda p q xs b) c g f = (f.0, narrow (with_variables xs n) (hiding (names xs) s) (with_variables xs t) b (binding_carries n s captured t xs c) g f.1)
     narrow n s t (Expression.Letrec p ds b) c g f =
-        let h = hiding_functions (function_names ds) s in
-        (narrow_definitions (with_functions ds n) h (with_functions ds t) ds (knowing_carries n s captured t ds c) (left (occurring_in_definitions h ds) (occurring h b) g) f.0,
-        narrow (with_functions ds n) h (with_functions ds t) b (knowing_carries n s captured t ds c) (right (occurring_in_definitions h ds) (occurring h b) g) f.1)
+        let h = hiding_functions (function_names ds) s in (
+          narrow_definitions (with_functions ds n) h (with_functions ds t) ds (knowing_carries n s captured t ds c) (left (occurring_in_definitions h ds) (occurring h b) g) f.0,
+          narrow (with_functions ds n) h (with_functions ds t) b (knowing_carries n s captured t ds c) (right (occurring_in_definitions h ds) (occurring h b) g) f.1,
+        )
     narrow n s t (Expression.Apply p h es) c g f =
         (f.0, narrow n s t h c (left (occurring s h) (occurring_in_all s es) g) f.1, narrow_all n s t es c (right (occurring s h) (occurring_in_all s es) g) f.2)
     narrow n s t (Expression.Call p m h es) c g f = narrow_all n s t es c g f
     narrow n s t (Expression.Primop p h es) c g f = (f.0, narrow_all n s t es c g f.1)
     narrow n s t (Expression.Try p a xs b ys h) c g f =
-        let front = left (occurring s a ++ occurring (hiding (names xs) s) b) (occurring (hiding (names ys) s) h) g in
-        (f.0, f.1, f.2, f.3, narrow n s t a c (left (occurring s a) (occurring (hiding (names xs) s) b) front) f.4,
-        narrow (with_variables xs n) (hiding (names xs) s) (with_variables xs t) b (binding_carries n s captured t xs c) (right (occurring s a) (occurring (hiding (names xs) s) b) front) f.5,
-        narrow (with_variables ys n) (hiding (names ys) s) (with_variables ys t) h (binding_carries n s captured t ys c) (right (occurring s a ++ occurring (hiding (names xs) s) b) (occurring (hiding (names ys) s) h) g) f.6)
+        let front = left (occurring s a ++ occurring (hiding (names xs) s) b) (occurring (hiding (names ys) s) h) g in (
+          f.0,
+          f.1,
+          f.2,
+          f.3,
+          narrow n s t a c (left (occurring s a) (occurring (hiding (names xs) s) b) front) f.4,
+          narrow (with_variables xs n) (hiding (names xs) s) (with_variables xs t) b (binding_carries n s captured t xs c) (right (occurring s a) (occurring (hiding (names xs) s) b) front) f.5,
+          narrow (with_variables ys n) (hiding (names ys) s) (with_variables ys t) h (binding_carries n s captured t ys c) (right (occurring s a ++ occurring (hiding (names xs) s) b) (occurring (hiding (names ys) s) h) g) f.6,
+        )
     narrow n s t (Expression.Do p a b) c g f = (narrow n s t a c (left (occurring s a) (occurring s b) g) f.0, narrow n s t b c (right (occurring s a) (occurring s b) g) f.1)
     narrow n s t (Expression.Catch p a) c g f = (f.0, narrow n s t a c g f.1)
 
@@ -194,13 +201,20 @@ module _ (captured : List ℕ) where
     narrow_clauses n s t a d (and_clause p ps guard b cs) c g f =
         let xs = variables_of_all ps in
         let h = hiding (bound_by ps) s in
-        let front = left (occurring h guard ++ occurring h b) (occurring_in_clauses s cs) g in
-        (f.0, f.1, f.2, narrow (with_variables xs n) h (with_variables xs t) guard (binding_carries n s captured t xs c) (left (occurring h guard) (occurring h b) front) f.3,
-        narrow (with_variables xs n) h (with_variables xs t) b (binding_carries n s captured t xs c) (right (occurring h guard) (occurring h b) front) f.4,
-        narrow_clauses n s t a d cs c (right (occurring h guard ++ occurring h b) (occurring_in_clauses s cs) g) f.5)
+        let front = left (occurring h guard ++ occurring h b) (occurring_in_clauses s cs) g in (
+          f.0,
+          f.1,
+          f.2,
+          narrow (with_variables xs n) h (with_variables xs t) guard (binding_carries n s captured t xs c) (left (occurring h guard) (occurring h b) front) f.3,
+          narrow (with_variables xs n) h (with_variables xs t) b (binding_carries n s captured t xs c) (right (occurring h guard) (occurring h b) front) f.4,
+          narrow_clauses n s t a d cs c (right (occurring h guard ++ occurring h b) (occurring_in_clauses s cs) g) f.5,
+        )
 
     pub narrow_definitions : (n : Names) (s : Scope) (t : Names) (ds : Definitions) → Carries n s captured t → In (occurring_in_definitions s ds) → FineDefinitions n ds → FineDefinitions t ds
     narrow_definitions n s t no_definition c g f = tt
-    narrow_definitions n s t (and_definition p h q xs b ds) c g f =
-        (f.0, f.1, narrow (with_variables xs n) (hiding (names xs) s) (with_variables xs t) b (binding_carries n s captured t xs c) (left (occurring (hiding (names xs) s) b) (occurring_in_definitions s ds) g) f.2,
-        narrow_definitions n s t ds c (right (occurring (hiding (names xs) s) b) (occurring_in_definitions s ds) g) f.3)
+    narrow_definitions n s t (and_definition p h q xs b ds) c g f = (
+      f.0,
+      f.1,
+      narrow (with_variables xs n) (hiding (names xs) s) (with_variables xs t) b (binding_carries n s captured t xs c) (left (occurring (hiding (names xs) s) b) (occurring_in_definitions s ds) g) f.2,
+      narrow_definitions n s t ds c (right (occurring (hiding (names xs) s) b) (occurring_in_definitions s ds) g) f.3,
+    )

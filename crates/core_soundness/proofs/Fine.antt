@@ -1,10 +1,9 @@
 -- What the rules of good modules say of an expression and the names in scope there, in one statement by its structure.
-use Rattle.std.proofs.Common.{◌≡◌, ℕ, zero, suc, ◌+◌, ◌<◌, ◌≤◌, List, [], ◌∷◌, ◌++◌, Option, Some, None, refl, sym, ap, ◌∙◌, subst, arith, inl, inr}
-use Rattle.std.specs.Prelude.{Bool, true, false, not, if◌then◌else◌, ◌||◌, ◌&&◌, ◌⊎◌, ◌==◌, length, map}
-use Rattle.std.specs.List.{flat_map, list_any}
+use Rattle.std.proofs.Common.{◌≡◌, ℕ, suc, List, [], ◌∷◌, ◌++◌, Option, Some, None, refl, sym, ap, ◌∙◌, subst, inl, inr}
+use Rattle.std.specs.Prelude.{Bool, true, false, if◌then◌else◌, ◌||◌, ◌⊎◌, ◌==◌, length, map}
+use Rattle.std.specs.List.{flat_map}
 use Rattle.hipe_terms.specs.declared.place.Place.{Place}
 use Rattle.core_ast.specs.declared.pattern.Var.{Var}
-use Rattle.core_ast.specs.declared.tree.FunName.{FunName}
 use Rattle.core_ast.specs.declared.rule.Rule.{Rule}
 use Rattle.core_ast.specs.declared.rule.Rule.TheVariants as Rules
 use Rattle.core_ast.specs.Trees.{Expression, Expressions, no_expression, and_expression, Clauses, no_clause, and_clause, Definitions, no_definition, and_definition, Module}
@@ -15,7 +14,7 @@ use Rattle.core_ast.specs.Part.{Part}
 use Rattle.core_ast.specs.Parts.{Scoped, parts, parts_of_all, parts_of_clauses, parts_of_definitions, names_of, parts_of_module}
 use Rattle.core_ast.specs.Rules.{unless, miscounted_causes, is_primop, broken_by}
 use Rattle.core_ast.specs.Good.{IsGood}
-use Rattle.core_soundness.proofs.Basics.{some_same, not_some, not_true, not_empty, empty_left, empty_right, flat_left, flat_right, same_numbers}
+use Rattle.core_soundness.proofs.Basics.{some_same, not_some, not_empty, empty_left, empty_right, flat_left, flat_right, same_numbers}
 
 -- ---- degrees
 
@@ -140,24 +139,32 @@ mutual
   fine s (Expression.Variable p x) c = unless_holds (has_variable x s) p (here c Rules.UnboundVariable)
   fine s (Expression.Name p f) c = unless_holds (has_function f s) p (here c Rules.UnboundFunction)
   fine s (Expression.Tuple p es) c = all_fine s es (here c Rules.Degree) (rest c)
-  fine s (Expression.Cons p es e) c =
-      (all_fine s es (fit_left (one_each es) ((e, 1) ∷ []) (here c Rules.Degree)) (clean_left (parts_of_all s es) (parts s e) (rest c)),
-      first_suits e 1 [] (fit_right (one_each es) ((e, 1) ∷ []) (here c Rules.Degree)), fine s e (clean_right (parts_of_all s es) (parts s e) (rest c)))
+  fine s (Expression.Cons p es e) c = (
+    all_fine s es (fit_left (one_each es) ((e, 1) ∷ []) (here c Rules.Degree)) (clean_left (parts_of_all s es) (parts s e) (rest c)),
+    first_suits e 1 [] (fit_right (one_each es) ((e, 1) ∷ []) (here c Rules.Degree)),
+    fine s e (clean_right (parts_of_all s es) (parts s e) (rest c)),
+  )
   fine s (Expression.Values p es) c = all_fine s es (here c Rules.Degree) (rest c)
-  fine s (Expression.Let p xs a b) c =
-      (first_suits a (length xs) [] (here c Rules.Degree), fine s a (clean_left (parts s a) (parts (with_variables xs s) b) (rest c)),
-      fine (with_variables xs s) b (clean_right (parts s a) (parts (with_variables xs s) b) (rest c)))
-  fine s (Expression.Case p a cs) c =
-      (fine s a (clean_left (parts s a) (parts_of_clauses s cs) (rest c)),
-      clauses_fine s a (degree_of_bodies cs) cs (fit_left (needs_of_clauses a cs) (agreeing_bodies cs (degree_of_bodies cs)) (here c Rules.Degree))
-      (fit_right (needs_of_clauses a cs) (agreeing_bodies cs (degree_of_bodies cs)) (here c Rules.Degree)) (λ is. is) (clean_right (parts s a) (parts_of_clauses s cs) (rest c)))
+  fine s (Expression.Let p xs a b) c = (
+    first_suits a (length xs) [] (here c Rules.Degree),
+    fine s a (clean_left (parts s a) (parts (with_variables xs s) b) (rest c)),
+    fine (with_variables xs s) b (clean_right (parts s a) (parts (with_variables xs s) b) (rest c)),
+  )
+  fine s (Expression.Case p a cs) c = (
+    fine s a (clean_left (parts s a) (parts_of_clauses s cs) (rest c)),
+    clauses_fine s a (degree_of_bodies cs) cs (fit_left (needs_of_clauses a cs) (agreeing_bodies cs (degree_of_bodies cs)) (here c Rules.Degree))
+        (fit_right (needs_of_clauses a cs) (agreeing_bodies cs (degree_of_bodies cs)) (here c Rules.Degree)) (λ is. is) (clean_right (parts s a) (parts_of_clauses s cs) (rest c)),
+  )
   fine s (Expression.Lambda p q xs b) c = (first_suits b 1 [] (here c Rules.Degree), fine (with_variables xs s) b (rest c))
-  fine s (Expression.Letrec p ds b) c =
-      (definitions_fine (with_functions ds s) ds (clean_left (parts_of_definitions (with_functions ds s) ds) (parts (with_functions ds s) b) (rest (rest c))),
-      fine (with_functions ds s) b (clean_right (parts_of_definitions (with_functions ds s) ds) (parts (with_functions ds s) b) (rest (rest c))))
-  fine s (Expression.Apply p f es) c =
-      (first_suits f 1 (one_each es) (here c Rules.Degree), fine s f (clean_left (parts s f) (parts_of_all s es) (rest c)),
-      all_fine s es (others_fit f 1 (one_each es) (here c Rules.Degree)) (clean_right (parts s f) (parts_of_all s es) (rest c)))
+  fine s (Expression.Letrec p ds b) c = (
+    definitions_fine (with_functions ds s) ds (clean_left (parts_of_definitions (with_functions ds s) ds) (parts (with_functions ds s) b) (rest (rest c))),
+    fine (with_functions ds s) b (clean_right (parts_of_definitions (with_functions ds s) ds) (parts (with_functions ds s) b) (rest (rest c))),
+  )
+  fine s (Expression.Apply p f es) c = (
+    first_suits f 1 (one_each es) (here c Rules.Degree),
+    fine s f (clean_left (parts s f) (parts_of_all s es) (rest c)),
+    all_fine s es (others_fit f 1 (one_each es) (here c Rules.Degree)) (clean_right (parts s f) (parts_of_all s es) (rest c)),
+  )
   fine s (Expression.Call p m f es) c = all_fine s es (here c Rules.Degree) (rest c)
   fine s (Expression.Primop p f es) c = (unless_holds (is_primop f (count es)) p (here c Rules.UnknownPrimop), all_fine s es (here c Rules.Degree) (rest c))
   fine s (Expression.Try p a xs b ys h) c =
@@ -165,11 +172,15 @@ mutual
       let needs : misfits ((a, length xs) ∷ (agreeing b d ++ agreeing h d)) ≡ [] = empty_left (misfits ((a, length xs) ∷ (agreeing b d ++ agreeing h d))) (miscounted_causes p ys) (here c Rules.Degree) in
       let causes = empty_right (misfits ((a, length xs) ∷ (agreeing b d ++ agreeing h d))) (miscounted_causes p ys) (here c Rules.Degree) in
       let bodies = others_fit a (length xs) (agreeing b d ++ agreeing h d) needs in
-      let front = clean_left (parts s a ++ parts (with_variables xs s) b) (parts (with_variables ys s) h) (rest c) in
-      (first_suits a (length xs) (agreeing b d ++ agreeing h d) needs, counted_causes p ys causes,
-      agrees b d (fit_left (agreeing b d) (agreeing h d) bodies) (λ is. (first_none (degree_of b) (degree_of h) is).0), agrees h d (fit_right (agreeing b d) (agreeing h d) bodies) (λ is. (first_none (degree_of b) (degree_of h) is).1),
-      fine s a (clean_left (parts s a) (parts (with_variables xs s) b) front), fine (with_variables xs s) b (clean_right (parts s a) (parts (with_variables xs s) b) front),
-      fine (with_variables ys s) h (clean_right (parts s a ++ parts (with_variables xs s) b) (parts (with_variables ys s) h) (rest c)))
+      let front = clean_left (parts s a ++ parts (with_variables xs s) b) (parts (with_variables ys s) h) (rest c) in (
+        first_suits a (length xs) (agreeing b d ++ agreeing h d) needs,
+        counted_causes p ys causes,
+        agrees b d (fit_left (agreeing b d) (agreeing h d) bodies) (λ is. (first_none (degree_of b) (degree_of h) is).0),
+        agrees h d (fit_right (agreeing b d) (agreeing h d) bodies) (λ is. (first_none (degree_of b) (degree_of h) is).1),
+        fine s a (clean_left (parts s a) (parts (with_variables xs s) b) front),
+        fine (with_variables xs s) b (clean_right (parts s a) (parts (with_variables xs s) b) front),
+        fine (with_variables ys s) h (clean_right (parts s a ++ parts (with_variables xs s) b) (parts (with_variables ys s) h) (rest c)),
+      )
   fine s (Expression.Do p a b) c = (fine s a (clean_left (parts s a) (parts s b) (rest c)), fine s b (clean_right (parts s a) (parts s b) (rest c)))
   fine s (Expression.Catch p a) c = (first_suits a 1 [] (here c Rules.Degree), fine s a (rest c))
 
@@ -184,19 +195,25 @@ mutual
   clauses_fine s a d (and_clause p ps g b cs) needs bodies f c =
       let t = with_variables (variables_of_all ps) s in
       let front = clean_left (parts t g ++ parts t b) (parts_of_clauses s cs) (rest c) in
-      let others = others_fit a (count_patterns ps) ((g, 1) ∷ needs_of_clauses a cs) needs in
-      (first_suits a (count_patterns ps) ((g, 1) ∷ needs_of_clauses a cs) needs, first_suits g 1 (needs_of_clauses a cs) others,
-      agrees b d (fit_left (agreeing b d) (agreeing_bodies cs d) bodies) (λ is. (first_none (degree_of b) (degree_of_bodies cs) (f is)).0),
-      fine t g (clean_left (parts t g) (parts t b) front), fine t b (clean_right (parts t g) (parts t b) front),
-      clauses_fine s a d cs (others_fit g 1 (needs_of_clauses a cs) others) (fit_right (agreeing b d) (agreeing_bodies cs d) bodies) (λ is. (first_none (degree_of b) (degree_of_bodies cs) (f is)).1)
-      (clean_right (parts t g ++ parts t b) (parts_of_clauses s cs) (rest c)))
+      let others = others_fit a (count_patterns ps) ((g, 1) ∷ needs_of_clauses a cs) needs in (
+        first_suits a (count_patterns ps) ((g, 1) ∷ needs_of_clauses a cs) needs,
+        first_suits g 1 (needs_of_clauses a cs) others,
+        agrees b d (fit_left (agreeing b d) (agreeing_bodies cs d) bodies) (λ is. (first_none (degree_of b) (degree_of_bodies cs) (f is)).0),
+        fine t g (clean_left (parts t g) (parts t b) front),
+        fine t b (clean_right (parts t g) (parts t b) front),
+        clauses_fine s a d cs (others_fit g 1 (needs_of_clauses a cs) others) (fit_right (agreeing b d) (agreeing_bodies cs d) bodies) (λ is. (first_none (degree_of b) (degree_of_bodies cs) (f is)).1)
+            (clean_right (parts t g ++ parts t b) (parts_of_clauses s cs) (rest c)),
+      )
 
   pub definitions_fine : (s : Names) (ds : Definitions) → Clean (parts_of_definitions s ds) → FineDefinitions s ds
   definitions_fine s no_definition c = tt
   definitions_fine s (and_definition p f q xs b ds) c =
-      let arity = empty_right (misfits ((b, 1) ∷ [])) (unless (length xs == f.arity) q) (here c Rules.Degree) in
-      (same_numbers (length xs) f.arity (unless_holds (length xs == f.arity) q arity), first_suits b 1 [] (empty_left (misfits ((b, 1) ∷ [])) (unless (length xs == f.arity) q) (here c Rules.Degree)),
-      fine (with_variables xs s) b (clean_left (parts (with_variables xs s) b) (parts_of_definitions s ds) (rest c)), definitions_fine s ds (clean_right (parts (with_variables xs s) b) (parts_of_definitions s ds) (rest c)))
+      let arity = empty_right (misfits ((b, 1) ∷ [])) (unless (length xs == f.arity) q) (here c Rules.Degree) in (
+        same_numbers (length xs) f.arity (unless_holds (length xs == f.arity) q arity),
+        first_suits b 1 [] (empty_left (misfits ((b, 1) ∷ [])) (unless (length xs == f.arity) q) (here c Rules.Degree)),
+        fine (with_variables xs s) b (clean_left (parts (with_variables xs s) b) (parts_of_definitions s ds) (rest c)),
+        definitions_fine s ds (clean_right (parts (with_variables xs s) b) (parts_of_definitions s ds) (rest c)),
+      )
 
 -- the functions of a good module
 pub module_fine : (m : Module) → IsGood m → FineDefinitions (names_of m) m.definitions

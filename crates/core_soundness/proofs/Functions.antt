@@ -1,22 +1,18 @@
 -- Each function of a good module is good: its body is fine with the names found where it is entered, and the functions in it are placed.
-use Rattle.std.proofs.Common.{◌≡◌, ℕ, zero, suc, ◌+◌, ◌<◌, ◌≤◌, List, [], ◌∷◌, ◌++◌, Option, Some, None, refl, sym, ap, ◌∙◌, subst, arith}
-use Rattle.std.specs.Prelude.{length, map, slice_get}
-use Rattle.std.proofs.lemmas.List.{length-append, length-map}
+use Rattle.std.proofs.Common.{◌≡◌, ℕ, suc, ◌+◌, List, ◌++◌, Option, refl, sym, ◌∙◌, subst, arith}
+use Rattle.std.specs.Prelude.{length}
+use Rattle.std.proofs.lemmas.List.{length-map}
 use Rattle.core_ast.specs.declared.pattern.Var.{Var}
-use Rattle.core_ast.specs.declared.tree.FunName.{FunName}
-use Rattle.core_ast.specs.Trees.{Expression, Expressions, no_expression, and_expression, Clauses, no_clause, and_clause, Definitions, no_definition, and_definition, Module}
+use Rattle.core_ast.specs.Trees.{Expression, Expressions, no_expression, and_expression, Clauses, no_clause, and_clause, Definitions, no_definition, and_definition}
 use Rattle.core_ast.specs.Names.{Names, with_variables, with_functions, variables_of_all}
-use Rattle.core_ast.specs.Degrees.{degree_of, degree_of_bodies}
-use Rattle.core_ast.specs.Parts.{names_of}
-use Rattle.core_ast.specs.Good.{IsGood}
-use Rattle.core_meaning.specs.Scopes.{Known, Scope, names, binding, bound_by, count_definitions, function_names, hiding, hiding_functions, occurring, occurring_in_definitions, captured_by_fun, captured_by_group, carried, numbered_functions, knowing, slots_from, funs, funs_in_all, funs_in_clauses, funs_in_definitions, letrec_scope, group_scope}
-use Rattle.core_meaning.specs.Procedures.{Procedure, Program, fun_at, scope_at_entry, slots_at_entry, procedures, procedures_in_all, procedures_in_clauses, procedures_of_group, known_from, module_scope, own_procedures, inner_procedures, module_procedures, program_of}
-use Rattle.core_soundness.proofs.Basics.{some_same, not_some}
-use Rattle.core_soundness.proofs.Lists.{Each, each_append, AllBelow, firsts_have}
-use Rattle.core_soundness.proofs.Scopes.{Below, Stands, EachStands, InForce, binding_in_force, carried_in_force, knowing_in_force, slots_below, length_slots, group_below}
-use Rattle.core_soundness.proofs.Fine.{Suits, Fine, FineAll, FineClauses, FineDefinitions, module_fine}
-use Rattle.core_soundness.proofs.Captured.{Covers, binding_covers, knowing_covers, module_covers, names_in, scope_covers, carried_names, binding_carries, knowing_carries, narrow, narrow_definitions}
-use Rattle.core_soundness.proofs.Numbers.{length_all, length_group, length_own, Placed, placed_left, placed_right, placed_head, placed_tail, placed_behind, placed_behind_two}
+use Rattle.core_ast.specs.Degrees.{degree_of}
+use Rattle.core_meaning.specs.Scopes.{Scope, names, binding, function_names, hiding, hiding_functions, occurring, occurring_in_definitions, captured_by_fun, captured_by_group, carried, numbered_functions, slots_from, funs, funs_in_all, funs_in_definitions, letrec_scope, group_scope}
+use Rattle.core_meaning.specs.Procedures.{Procedure, Program, fun_at, scope_at_entry, slots_at_entry, procedures, procedures_in_all, procedures_in_clauses, procedures_of_group}
+use Rattle.core_soundness.proofs.Lists.{Each, each_append, firsts_have}
+use Rattle.core_soundness.proofs.Scopes.{EachStands, InForce, binding_in_force, carried_in_force, knowing_in_force, slots_below, length_slots, group_below}
+use Rattle.core_soundness.proofs.Fine.{Suits, Fine, FineAll, FineClauses, FineDefinitions}
+use Rattle.core_soundness.proofs.Captured.{Covers, binding_covers, knowing_covers, names_in, scope_covers, carried_names, binding_carries, knowing_carries, narrow, narrow_definitions}
+use Rattle.core_soundness.proofs.Numbers.{length_all, length_group, Placed, placed_left, placed_right, placed_head, placed_tail, placed_behind, placed_behind_two}
 
 pub length_names : (xs : List Var) → length (names xs) ≡ length xs
 length_names xs = length-map xs (λ x. x.name)
@@ -42,11 +38,12 @@ module _ (program : Program) where
       let ps = procedures (binding c (names xs) s) (c + length xs) (suc i) b in
       let first : Procedure = record { parameters = names xs; body = b; scope = s; captured = c; first = suc i } in
       let others : Placed program (i + 1 + funs b) (procedures_of_group c s (i + 1 + funs b) ds) =
-          let e : suc i + funs b ≡ i + 1 + funs b = omega arith in
-          subst (λ j. Placed program j (procedures_of_group c s (i + 1 + funs b) ds)) e
-          (placed_behind program (binding c (names xs) s) (c + length xs) (suc i) b (procedures_of_group c s (i + 1 + funs b) ds) (placed_tail program i first (ps ++ procedures_of_group c s (i + 1 + funs b) ds) p)) in
-      (record { procedure = first; found = placed_head program i first (ps ++ procedures_of_group c s (i + 1 + funs b) ds) p; captured = size; parameters = length_names xs ∙ f.0 },
-      group_stand n c s (i + 1 + funs b) captured ds size f.3 others)
+      let e : suc i + funs b ≡ i + 1 + funs b = omega arith in
+      subst (λ j. Placed program j (procedures_of_group c s (i + 1 + funs b) ds)) e
+      (placed_behind program (binding c (names xs) s) (c + length xs) (suc i) b (procedures_of_group c s (i + 1 + funs b) ds) (placed_tail program i first (ps ++ procedures_of_group c s (i + 1 + funs b) ds) p)) in (
+        record { procedure = first; found = placed_head program i first (ps ++ procedures_of_group c s (i + 1 + funs b) ds) p; captured = size; parameters = length_names xs ∙ f.0 },
+        group_stand n c s (i + 1 + funs b) captured ds size f.3 others,
+      )
 
   -- the scope of the body of a `letrec`
   pub letrec_sited : (n : Names) (s : Scope) (k i : ℕ) (ds : Definitions) → FineDefinitions (with_functions ds n) ds → Sited n s k → Placed program i (procedures_of_group (length (captured_by_group s ds)) (group_scope i ds s) i ds)
@@ -195,6 +192,7 @@ module _ (program : Program) where
         let first : Procedure = record { parameters = names xs; body = b; scope = s; captured = c; first = suc i } in
         let inside = placed_tail program i first (ps ++ qs) p in
         let others : Placed program (i + 1 + funs b) qs =
-            let e : suc i + funs b ≡ i + 1 + funs b = omega arith in subst (λ j. Placed program j qs) e (placed_behind program t (c + length xs) (suc i) b qs inside) in
-        (defined_good n s c (suc i) xs b f.1 f.2 w (placed_left program (suc i) ps qs inside),
-        join ps qs (good (with_variables xs n) t (c + length xs) (suc i) b f.2 (binding_sited n s c xs w) (placed_left program (suc i) ps qs inside)) (group_good n s c (i + 1 + funs b) ds f.3 w others))
+        let e : suc i + funs b ≡ i + 1 + funs b = omega arith in subst (λ j. Placed program j qs) e (placed_behind program t (c + length xs) (suc i) b qs inside) in (
+          defined_good n s c (suc i) xs b f.1 f.2 w (placed_left program (suc i) ps qs inside),
+          join ps qs (good (with_variables xs n) t (c + length xs) (suc i) b f.2 (binding_sited n s c xs w) (placed_left program (suc i) ps qs inside)) (group_good n s c (i + 1 + funs b) ds f.3 w others),
+        )

@@ -1,6 +1,6 @@
 -- What holds of each element of a list, and look-ups by a test of equality.
-use Rattle.std.proofs.Common.{◌≡◌, ℕ, zero, suc, ◌+◌, ◌<◌, ◌≤◌, List, [], ◌∷◌, ◌++◌, Option, Some, None, refl, sym, ap, ◌∙◌, subst, arith, inl, inr}
-use Rattle.std.specs.Prelude.{Bool, true, false, not, if◌then◌else◌, ◌||◌, ◌&&◌, ◌⊎◌, ◌==◌, length, map, slice_get, option_map}
+use Rattle.std.proofs.Common.{◌≡◌, ℕ, zero, suc, ◌<◌, List, [], ◌∷◌, ◌++◌, Option, Some, None, refl, sym, ap, ◌∙◌, subst, arith, inl, inr}
+use Rattle.std.specs.Prelude.{Bool, true, false, not, if◌then◌else◌, ◌||◌, ◌⊎◌, ◌==◌, length, map, slice_get, option_map}
 use Rattle.std.specs.List.{filter, list_any}
 use Rattle.std.specs.Map.{lookup}
 use Rattle.core_meaning.specs.Scopes.{first_occurrences, position, positions, joined}
@@ -157,9 +157,10 @@ in_firsts false i j js p f = in_behind j i (filter (λ j. not (j == i)) js) (in_
 -- each slot is among the first occurrences
 pub firsts_have : (is : List ℕ) → Each (IsIn (first_occurrences is)) is
 firsts_have [] = tt
-firsts_have (i ∷ is) =
-    (in_front i i (filter (λ j. not (j == i)) (first_occurrences is)) refl,
-    each_weaker (IsIn (first_occurrences is)) (IsIn (first_occurrences (i ∷ is))) (λ j f. in_firsts (j == i) i j (first_occurrences is) refl f) is (firsts_have is))
+firsts_have (i ∷ is) = (
+  in_front i i (filter (λ j. not (j == i)) (first_occurrences is)) refl,
+  each_weaker (IsIn (first_occurrences is)) (IsIn (first_occurrences (i ∷ is))) (λ j f. in_firsts (j == i) i j (first_occurrences is) refl f) is (firsts_have is),
+)
 
 pub each_first : (P : ℕ → Type 0) (is : List ℕ) → Each P is → Each P (first_occurrences is)
 each_first P [] g = tt

@@ -1,13 +1,12 @@
 -- A pattern that matches a good term binds as many variables as it has, each to a good term.
-use Rattle.std.proofs.Common.{◌≡◌, ℕ, zero, suc, ◌+◌, List, [], ◌∷◌, ◌++◌, Option, Some, None, refl, sym, ap, ◌∙◌, subst, arith}
-use Rattle.std.specs.Prelude.{ℤ, Bool, true, false, if◌then◌else◌, option_map, length, map}
+use Rattle.std.proofs.Common.{◌≡◌, ℕ, suc, ◌+◌, List, ◌∷◌, ◌++◌, Some, None, refl, sym, ap, subst, arith}
+use Rattle.std.specs.Prelude.{Bool, true, false, option_map, length}
 use Rattle.std.proofs.lemmas.List.{length-append, length-map}
 use Rattle.hipe_terms.specs.Terms.{Term, integer, atom, nil, cons, tuple, fun, Terms, none, more, terms}
-use Rattle.core_ast.specs.declared.pattern.Var.{Var}
 use Rattle.core_ast.specs.Trees.{Pattern, Patterns, no_pattern, and_pattern}
 use Rattle.core_ast.specs.Names.{variables_of, variables_of_all}
 use Rattle.core_meaning.specs.Procedures.{Program}
-use Rattle.core_meaning.specs.Scopes.{names, bound_by}
+use Rattle.core_meaning.specs.Scopes.{bound_by}
 use Rattle.core_meaning.specs.Matching.{Match, nothing_bound, together, is_this_integer, is_this_atom, is_nil, elements_of, parts_of, matched, matched_all, matched_cells}
 use Rattle.core_soundness.proofs.Terms.{GoodTerm, GoodTerms, AllGood, append_good, terms_good}
 

@@ -1,18 +1,18 @@
 -- Each function of a good module is good, and so is each that it exports.
-use Rattle.std.proofs.Common.{◌≡◌, ℕ, zero, suc, ◌+◌, ◌<◌, ◌≤◌, List, [], ◌∷◌, ◌++◌, Option, Some, None, refl, sym, ap, ◌∙◌, subst, arith}
-use Rattle.std.specs.Prelude.{Bool, true, false, if◌then◌else◌, length, map, slice_get}
+use Rattle.std.proofs.Common.{◌≡◌, ℕ, suc, ◌+◌, List, [], ◌++◌, Option, Some, None, refl, sym, ◌∙◌, subst, arith}
+use Rattle.std.specs.Prelude.{Bool, true, false, if◌then◌else◌, length, slice_get}
 use Rattle.std.specs.List.{list_any}
 use Rattle.core_ast.specs.declared.tree.FunName.{FunName}
 use Rattle.core_ast.specs.Trees.{Definitions, no_definition, and_definition, Module}
-use Rattle.core_ast.specs.Names.{Names, is_named, with_functions, with_variables}
+use Rattle.core_ast.specs.Names.{Names, is_named, with_variables}
 use Rattle.core_ast.specs.Parts.{names_of}
 use Rattle.core_ast.specs.Good.{IsGood}
-use Rattle.core_meaning.specs.Scopes.{Known, Scope, names, binding, count_definitions, function_names, funs}
-use Rattle.core_meaning.specs.Procedures.{Procedure, Program, procedures, known_from, module_scope, own_procedures, inner_procedures, module_procedures, program_of}
+use Rattle.core_meaning.specs.Scopes.{Scope, names, binding, count_definitions, function_names, funs}
+use Rattle.core_meaning.specs.Procedures.{Procedure, Program, procedures, known_from, module_scope, own_procedures, inner_procedures, program_of}
 use Rattle.core_meaning.specs.Meaning.{number_among, exported}
 use Rattle.core_soundness.proofs.Basics.{some_same, not_some}
-use Rattle.core_soundness.proofs.Lists.{Each, each_append, each_get, AllBelow}
-use Rattle.core_soundness.proofs.Scopes.{Below, SlotsBelow, Stands, EachStands, InForce, arity_named}
+use Rattle.core_soundness.proofs.Lists.{Each, each_append, each_get}
+use Rattle.core_soundness.proofs.Scopes.{SlotsBelow, Stands, EachStands, arity_named}
 use Rattle.core_soundness.proofs.Fine.{FineDefinitions, module_fine}
 use Rattle.core_soundness.proofs.Captured.{module_covers}
 use Rattle.core_soundness.proofs.Numbers.{length_own, Placed, placed_left, placed_right, placed_head, placed_tail, placed_behind}
@@ -35,9 +35,10 @@ module _ (program : Program) where
   own_good n s j (and_definition a g q xs b ds) f w p =
       let ps = procedures (binding 0 (names xs) s) (length xs) j b in
       let qs = inner_procedures s (j + funs b) ds in
-      let e : length xs ≡ 0 + length xs = omega arith in
-      (defined_good program n s 0 j xs b f.1 f.2 w (subst (λ m. Placed program j (procedures (binding 0 (names xs) s) m j b)) e (placed_left program j ps qs p)),
-      own_good n s (j + funs b) ds f.3 w (placed_behind program (binding 0 (names xs) s) (length xs) j b qs p))
+      let e : length xs ≡ 0 + length xs = omega arith in (
+        defined_good program n s 0 j xs b f.1 f.2 w (subst (λ m. Placed program j (procedures (binding 0 (names xs) s) m j b)) e (placed_left program j ps qs p)),
+        own_good n s (j + funs b) ds f.3 w (placed_behind program (binding 0 (names xs) s) (length xs) j b qs p),
+      )
 
   inner_good : (n : Names) (s : Scope) (j : ℕ) (ds : Definitions) → FineDefinitions n ds → Sited program n s 0 → Placed program j (inner_procedures s j ds) → Each (GoodProcedure program) (inner_procedures s j ds)
   inner_good n s j no_definition f w p = tt

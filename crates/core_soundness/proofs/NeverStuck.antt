@@ -1,12 +1,7 @@
 -- The laws of runs of good modules.
-use Rattle.std.proofs.Common.{◌≡◌, ℕ, List, sym, subst}
-use Rattle.std.specs.Prelude.{◌≢◌, length}
-use Rattle.hipe_terms.specs.declared.constant.Call.{Call}
-use Rattle.hipe_terms.specs.Terms.{Term}
-use Rattle.core_ast.specs.Trees.{Module}
-use Rattle.core_ast.specs.Good.{IsGood}
+use Rattle.std.proofs.Common.{subst}
 use Rattle.core_meaning.specs.Procedures.{program_of}
-use Rattle.core_meaning.specs.Meaning.{Ending, Run, Limits}
+use Rattle.core_meaning.specs.Meaning.{Run}
 use Rattle.core_meaning.specs.Source.{unlimited, run_within, source_run}
 use Rattle.core_soundness.specs.Laws.{NeverSticks, GoodModulesNeverStick, GoodModulesNeverStickWithin}
 use Rattle.core_soundness.proofs.Steps.{IsSound, Sound}

@@ -1,10 +1,10 @@
 -- The functions in an expression stand in the program from the number of the first on, as many as are counted.
-use Rattle.std.proofs.Common.{◌≡◌, ℕ, zero, suc, ◌+◌, ◌<◌, ◌≤◌, List, [], ◌∷◌, ◌++◌, Option, Some, None, refl, sym, ap, ◌∙◌, subst, arith}
-use Rattle.std.specs.Prelude.{length, map, slice_get}
+use Rattle.std.proofs.Common.{◌≡◌, ℕ, zero, suc, ◌+◌, List, [], ◌∷◌, ◌++◌, Some, refl, ap, subst, arith}
+use Rattle.std.specs.Prelude.{length, slice_get}
 use Rattle.std.proofs.lemmas.List.{length-append}
 use Rattle.core_ast.specs.Trees.{Expression, Expressions, no_expression, and_expression, Clauses, no_clause, and_clause, Definitions, no_definition, and_definition}
 use Rattle.core_meaning.specs.Scopes.{Scope, names, binding, bound_by, count_definitions, captured_by_group, funs, funs_in_all, funs_in_clauses, funs_in_definitions, letrec_scope, group_scope}
-use Rattle.core_meaning.specs.Procedures.{Procedure, Program, fun_at, scope_at_entry, slots_at_entry, procedures, procedures_in_all, procedures_in_clauses, procedures_of_group, own_procedures, inner_procedures}
+use Rattle.core_meaning.specs.Procedures.{Procedure, Program, fun_at, scope_at_entry, slots_at_entry, procedures, procedures_in_all, procedures_in_clauses, procedures_of_group, own_procedures}
 use Rattle.core_soundness.proofs.Basics.{not_some}
 
 -- ---- how many there are

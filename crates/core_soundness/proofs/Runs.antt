@@ -1,30 +1,29 @@
 -- No run of a good module's call gets stuck.
-use Rattle.std.proofs.Common.{◌≡◌, ℕ, zero, suc, ◌+◌, ◌<◌, ◌≤◌, List, [], ◌∷◌, ◌++◌, Option, Some, None, refl, sym, ap, ◌∙◌, subst, arith, inl, inr}
-use Rattle.std.specs.Prelude.{Bool, true, false, if◌then◌else◌, ◌==◌, length, map, sum, slice_get, codes, bytes_eq}
+use Rattle.std.proofs.Common.{◌≡◌, ℕ, zero, suc, ◌+◌, List, [], ◌∷◌, ◌++◌, Option, Some, None, refl, sym, ap, ◌∙◌, subst, arith}
+use Rattle.std.specs.Prelude.{Bool, true, false, if◌then◌else◌, ◌==◌, length, map, sum, slice_get}
 use Rattle.std.proofs.lemmas.List.{length-append, length-map}
 use Rattle.hipe_terms.specs.declared.constant.Call.{Call}
-use Rattle.hipe_terms.specs.Terms.{Term, integer, atom, nil, cons, tuple, fun, Terms, none, more, terms, cells, term_of}
-use Rattle.hipe_terms.specs.Words.{list_words, tuple_words, words_of}
-use Rattle.hipe_terms.specs.Outcome.{Class, error, exit, throw}
+use Rattle.hipe_terms.specs.Terms.{Term, terms, term_of}
+use Rattle.hipe_terms.specs.Words.{words_of}
 use Rattle.core_ast.specs.declared.pattern.Var.{Var}
 use Rattle.core_ast.specs.declared.tree.FunName.{FunName}
-use Rattle.core_ast.specs.Trees.{Expression, Expressions, no_expression, and_expression, Clauses, no_clause, and_clause, Definitions, Module}
+use Rattle.core_ast.specs.Trees.{Expression, Expressions, no_expression, and_expression, Clauses, no_clause, and_clause, Module}
 use Rattle.core_ast.specs.Names.{Names, has_function, has_variable, with_variables, with_functions, variables_of_all}
 use Rattle.core_ast.specs.Degrees.{count, count_patterns, degree_of, degree_of_bodies}
 use Rattle.core_ast.specs.Good.{IsGood}
-use Rattle.core_meaning.specs.Scopes.{Known, Scope, slot_of, known_of, names, binding, bound_by, count_definitions, captured_by_fun, captured_by_group, funs, funs_in_all, funs_in_definitions, letrec_scope, group_scope}
+use Rattle.core_meaning.specs.Scopes.{Scope, slot_of, known_of, names, binding, bound_by, count_definitions, captured_by_fun, captured_by_group, funs, funs_in_all, funs_in_definitions, letrec_scope, group_scope}
 use Rattle.core_meaning.specs.Procedures.{Procedure, Program, fun_at, scope_at_entry, slots_at_entry, procedures, procedures_in_all, procedures_in_clauses, procedures_of_group, program_of}
 use Rattle.core_meaning.specs.Matching.{matched_all}
-use Rattle.core_meaning.specs.Meaning.{State, Ending, Run, ends, Limits, Next, Handler, Calls, passes, worked, entering, builds, Context, part, behind, with, with_functions as with_known, value_in, value_of, both, values_in, function_in, function_of, with_one, is_true, causes, count_clauses, tested_nodes, direct, exported, applies_named, applies, eval, eval_all, choose, at_entry, enters, calls_within}
-use Rattle.core_meaning.specs.Source.{unlimited, at_start, called_name, starts, run_within, source_run}
+use Rattle.core_meaning.specs.Meaning.{State, Ending, Run, ends, Limits, Next, Handler, Calls, passes, worked, entering, Context, part, behind, with, with_functions as with_known, value_in, value_of, both, values_in, function_in, function_of, with_one, is_true, count_clauses, tested_nodes, direct, exported, applies_named, applies, eval, eval_all, choose, at_entry, enters, calls_within}
+use Rattle.core_meaning.specs.Source.{at_start, called_name, starts, run_within}
 use Rattle.core_soundness.proofs.Basics.{some_same, not_some, same_numbers}
-use Rattle.core_soundness.proofs.Lists.{Each, IsFound, AllBelow, get_found}
+use Rattle.core_soundness.proofs.Lists.{AllBelow, get_found}
 use Rattle.core_soundness.proofs.Terms.{GoodTerm, AllGood, terms_good, cells_good, append_good, get_good, constants_good}
-use Rattle.core_soundness.proofs.Matched.{Binds, patterns_bind}
-use Rattle.core_soundness.proofs.Scopes.{Below, InForce, Stands, known_stands, slot_of_below, known_of_below, fun_below}
-use Rattle.core_soundness.proofs.Fine.{Suits, Fine, FineAll, FineClauses, FineDefinitions}
+use Rattle.core_soundness.proofs.Matched.{patterns_bind}
+use Rattle.core_soundness.proofs.Scopes.{known_stands, slot_of_below, known_of_below, fun_below}
+use Rattle.core_soundness.proofs.Fine.{Fine, FineAll, FineClauses}
 use Rattle.core_soundness.proofs.Numbers.{length_all, length_group, Placed, placed_left, placed_right, placed_head, placed_behind, placed_behind_two}
-use Rattle.core_soundness.proofs.Functions.{length_names, Sited, binding_sited, clause_sited, letrec_sited, GoodProcedure}
+use Rattle.core_soundness.proofs.Functions.{length_names, Sited, binding_sited, letrec_sited, GoodProcedure}
 use Rattle.core_soundness.proofs.Modules.{module_good, exported_stands}
 use Rattle.core_soundness.proofs.Steps.{Sound, cond_sound, bool_sound, option_sound, builds_sound, count_sound, NextSound, HandlerSound, CallSound, match_sound, one_sound, value_sound, no_clause_sound, fun_sound, Applicable, named_sound, caught_sound, causes_sound, primop_sound, ExportsStand, applies_sound, applies_named_sound, calls_sound}
 

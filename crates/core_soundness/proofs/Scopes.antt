@@ -1,18 +1,16 @@
 -- Well-formed scopes: each slot is in force, and each function's number names a procedure of the program that fits its name and what it captures.
-use Rattle.std.proofs.Common.{◌≡◌, ℕ, zero, suc, ◌+◌, ◌<◌, ◌≤◌, List, [], ◌∷◌, ◌++◌, Option, Some, None, refl, sym, ap, ◌∙◌, subst, arith, inl, inr}
-use Rattle.std.specs.Prelude.{Bool, true, false, not, if◌then◌else◌, ◌||◌, ◌&&◌, ◌⊎◌, ◌==◌, length, map, slice_get, option_map, bytes_eq}
-use Rattle.std.specs.List.{filter, list_any}
-use Rattle.std.specs.Map.{lookup}
+use Rattle.std.proofs.Common.{◌≡◌, ℕ, zero, suc, ◌+◌, ◌<◌, ◌≤◌, List, [], ◌∷◌, ◌++◌, Option, Some, None, refl, sym, ap, ◌∙◌, arith}
+use Rattle.std.specs.Prelude.{true, not, ◌&&◌, ◌==◌, length, slice_get, bytes_eq}
+use Rattle.std.specs.List.{list_any}
 use Rattle.std.proofs.lemmas.Bool.Decides.{same_from_decides, Decides-eqb}
 use Rattle.std.proofs.lemmas.Slice.Eq.{bytes_eq-Decides}
-use Rattle.core_ast.specs.declared.pattern.Var.{Var}
 use Rattle.core_ast.specs.declared.tree.FunName.{FunName}
 use Rattle.core_ast.specs.Trees.{Expression, Expressions, no_expression, and_expression, Clauses, no_clause, and_clause, Definitions, no_definition, and_definition}
-use Rattle.core_ast.specs.Names.{Names, is_named, has_variable, has_function, with_variables, with_functions, defined}
-use Rattle.core_meaning.specs.Scopes.{Known, Scope, slot_of, known_of, names, numbered, binding, bound_by, function_names, hiding, hiding_functions, slot_if_any, slots_if_known, occurring, occurring_in_all, occurring_in_clauses, occurring_in_definitions, first_occurrences, captured_by_fun, captured_by_group, position, positions, carried_variable, carried_variables, carried_function, carried_functions, carried, numbered_functions, knowing, slots_from, funs}
-use Rattle.core_meaning.specs.Procedures.{Procedure, Program, known_from}
-use Rattle.core_soundness.proofs.Basics.{some_same, not_some, not_true, both_parts, same_bytes, same_numbers}
-use Rattle.core_soundness.proofs.Lists.{Each, IsFound, each_append, each_left, each_right, each_filter, each_weaker, each_found, listed_found, found_listed, AllBelow, IsIn, each_first, position_below, positions_found, positions_fit}
+use Rattle.core_ast.specs.Names.{is_named}
+use Rattle.core_meaning.specs.Scopes.{Known, Scope, slot_of, known_of, names, numbered, binding, bound_by, function_names, hiding, hiding_functions, slot_if_any, slots_if_known, occurring, occurring_in_all, occurring_in_clauses, occurring_in_definitions, captured_by_fun, captured_by_group, position, positions, carried_variable, carried_variables, carried_function, carried_functions, carried, numbered_functions, knowing, slots_from, funs}
+use Rattle.core_meaning.specs.Procedures.{Procedure, Program}
+use Rattle.core_soundness.proofs.Basics.{both_parts, same_bytes, same_numbers}
+use Rattle.core_soundness.proofs.Lists.{Each, each_append, each_filter, each_weaker, each_found, AllBelow, each_first, position_below, positions_fit}
 
 -- ---- equality of names
 
@@ -174,27 +172,27 @@ module _ (program : Program) where
   carried_variables_below captured (v ∷ vs) =
       each_append (SlotBelow (length captured)) (carried_variable v (position v.1 captured)) (carried_variables captured vs)
       (one (position v.1 captured) (λ k is. position_below v.1 captured k is)) (carried_variables_below captured vs) where
-    one : (o : Option ℕ) → ((k : ℕ) → o ≡ Some k → k < length captured) → Each (SlotBelow (length captured)) (carried_variable v o)
-    one None f = tt
-    one (Some k) f = (f k refl, tt)
+        one : (o : Option ℕ) → ((k : ℕ) → o ≡ Some k → k < length captured) → Each (SlotBelow (length captured)) (carried_variable v o)
+        one None f = tt
+        one (Some k) f = (f k refl, tt)
 
   carried_functions_below : (captured : List ℕ) (fs : List (FunName × Known)) → Each (SlotsBelow (length captured)) (carried_functions captured fs)
   carried_functions_below captured [] = tt
   carried_functions_below captured (f ∷ fs) =
       each_append (SlotsBelow (length captured)) (carried_function f (positions (f.1).captured captured)) (carried_functions captured fs)
       (one (positions (f.1).captured captured) (λ js is. (positions_fit captured (f.1).captured js is).0)) (carried_functions_below captured fs) where
-    one : (o : Option (List ℕ)) → ((js : List ℕ) → o ≡ Some js → AllBelow (length captured) js) → Each (SlotsBelow (length captured)) (carried_function f o)
-    one None g = tt
-    one (Some js) g = (g js refl, tt)
+        one : (o : Option (List ℕ)) → ((js : List ℕ) → o ≡ Some js → AllBelow (length captured) js) → Each (SlotsBelow (length captured)) (carried_function f o)
+        one None g = tt
+        one (Some js) g = (g js refl, tt)
 
   carried_functions_stand : (captured : List ℕ) (fs : List (FunName × Known)) → Each EachStands fs → Each EachStands (carried_functions captured fs)
   carried_functions_stand captured [] g = tt
   carried_functions_stand captured (f ∷ fs) g =
       each_append EachStands (carried_function f (positions (f.1).captured captured)) (carried_functions captured fs)
       (one (positions (f.1).captured captured) (λ js is. (positions_fit captured (f.1).captured js is).1)) (carried_functions_stand captured fs g.1) where
-    one : (o : Option (List ℕ)) → ((js : List ℕ) → o ≡ Some js → length js ≡ length (f.1).captured) → Each EachStands (carried_function f o)
-    one None h = tt
-    one (Some js) h = (record { procedure = g.0.procedure; found = g.0.found; captured = g.0.captured ∙ sym (h js refl); parameters = g.0.parameters }, tt)
+        one : (o : Option (List ℕ)) → ((js : List ℕ) → o ≡ Some js → length js ≡ length (f.1).captured) → Each EachStands (carried_function f o)
+        one None h = tt
+        one (Some js) h = (record { procedure = g.0.procedure; found = g.0.found; captured = g.0.captured ∙ sym (h js refl); parameters = g.0.parameters }, tt)
 
   pub carried_in_force : (s : Scope) (captured : List ℕ) (k : ℕ) → InForce s k → InForce (carried captured s) (length captured)
   carried_in_force s captured k i =

@@ -1,8 +1,7 @@
 -- The primitive steps of a run don't get stuck on good terms, in so many values as they want.
-use Rattle.std.proofs.Common.{◌≡◌, ℕ, zero, suc, ◌+◌, ◌<◌, ◌≤◌, List, [], ◌∷◌, ◌++◌, Option, Some, None, refl, sym, ap, ◌∙◌, subst, arith, inl, inr}
-use Rattle.std.specs.Prelude.{Bool, true, false, if◌then◌else◌, ◌||◌, ◌&&◌, ◌⊎◌, ◌==◌, nat_eq, length, map, slice_get, codes, bytes_eq}
-use Rattle.hipe_terms.specs.Terms.{Term, integer, atom, nil, cons, tuple, fun, Terms, none, more, terms, listed, cells, count}
-use Rattle.hipe_terms.specs.Words.{list_words, tuple_words}
+use Rattle.std.proofs.Common.{◌≡◌, ℕ, zero, suc, ◌+◌, ◌<◌, List, [], ◌∷◌, Option, Some, None, refl, sym, ap, ◌∙◌, subst, arith, inl, inr}
+use Rattle.std.specs.Prelude.{Bool, true, false, if◌then◌else◌, ◌||◌, ◌&&◌, ◌⊎◌, ◌==◌, nat_eq, length, slice_get, codes, bytes_eq}
+use Rattle.hipe_terms.specs.Terms.{Term, integer, atom, nil, cons, tuple, fun, terms, listed}
 use Rattle.hipe_terms.specs.Bifs.{built_in}
 use Rattle.hipe_terms.specs.declared.bif.Bif.{Bif}
 use Rattle.hipe_terms.specs.declared.bif.Bif.TheVariants.{Error, Throw, Exit}
@@ -13,9 +12,8 @@ use Rattle.core_ast.specs.Rules.{is_primop}
 use Rattle.core_meaning.specs.Procedures.{Procedure, Program}
 use Rattle.core_meaning.specs.Meaning.{State, Ending, Run, ends, Limits, Next, Handler, Calls, passes, worked, printing, builds, fails, with_one, with_count, with_value, class_of, class_atom, no_clause_for, makes_fun, makes_named, caught, causes, raises_as, raise, is_function_clause, match_fail, build_stacktrace, primop, parameters_of, arity_of, own_function, exported, applies_named, comes_to, performs, applies, calls_own, calls}
 use Rattle.core_soundness.proofs.Basics.{some_same, not_some, not_true, both_parts, same_bytes, same_numbers, numbers_same}
-use Rattle.core_soundness.proofs.Lists.{IsFound}
 use Rattle.core_soundness.proofs.Modules.{if_there}
-use Rattle.core_soundness.proofs.Terms.{Captures, GoodTerm, GoodTerms, AllGood, terms_good, listed_good, cells_good, count_terms, length_listed}
+use Rattle.core_soundness.proofs.Terms.{Captures, GoodTerm, AllGood, terms_good, listed_good, cells_good, count_terms, length_listed}
 use Rattle.core_soundness.proofs.BuiltIns.{GoodEnd, outcome_good}
 use Rattle.core_soundness.proofs.Scopes.{Stands}
 use Rattle.core_soundness.proofs.Matched.{Binds}

@@ -1,7 +1,7 @@
 -- Good terms of a program: each fun in them names a function of the program, with as many values as it captures.
-use Rattle.std.proofs.Common.{◌≡◌, ℕ, zero, suc, ◌+◌, List, [], ◌∷◌, ◌++◌, Option, Some, None, refl, sym, ap, ◌∙◌, subst, arith}
-use Rattle.std.specs.Prelude.{Bool, true, false, if◌then◌else◌, length, map, slice_get, codes, option_map}
-use Rattle.hipe_terms.specs.declared.constant.Constant.{Constant, roll-Constant, out-Constant}
+use Rattle.std.proofs.Common.{◌≡◌, ℕ, zero, suc, List, [], ◌∷◌, ◌++◌, Some, refl, sym, ap, subst}
+use Rattle.std.specs.Prelude.{length, map, slice_get}
+use Rattle.hipe_terms.specs.declared.constant.Constant.{Constant, roll-Constant}
 use Rattle.hipe_terms.specs.declared.constant.Constant.TheFolds.{ind-Constant, map-Constant, fold-roll-Constant}
 use Rattle.hipe_terms.specs.declared.constant.Constant.TheOpen.{Constant-F}
 use Rattle.hipe_terms.specs.Terms.{Term, integer, atom, nil, cons, tuple, fun, Terms, none, more, terms, listed, cells, count, term_at, term_of}
