@@ -12,3 +12,4 @@ pub mod Modules
 pub mod Steps
 pub mod Runs
 pub mod NeverStuck
+mod Rows

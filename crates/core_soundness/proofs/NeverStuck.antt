@@ -8,7 +8,7 @@ use Rattle.core_soundness.proofs.Steps.{IsSound, Sound}
 use Rattle.core_soundness.proofs.Runs.{module_sound}
 
 sound_never_sticks : (x : Run) → Sound x → NeverSticks x
-sound_never_sticks x s = record { goes_on = λ is. subst IsSound is s.is; one_value = λ ts is. subst IsSound is s.is }
+sound_never_sticks x s = record { not_stuck = λ is. subst IsSound is s.is; one_value = λ ts is. subst IsSound is s.is }
 
 pub never_stick_within : GoodModulesNeverStickWithin
 never_stick_within m good limits c fuel = sound_never_sticks (run_within (program_of m) limits c fuel) (module_sound m good limits c fuel)

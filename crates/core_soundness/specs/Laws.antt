@@ -10,7 +10,7 @@ use Rattle.core_meaning.specs.Source.{run_within, source_run}
 
 -- a run that isn't stuck, and that has one value where it ends with values
 pub record NeverSticks (x : Run) : Type 0 where
-  pub goes_on : x.ending ≢ Ending.stuck
+  pub not_stuck : x.ending ≢ Ending.stuck
   pub one_value : (ts : List Term) → x.ending ≡ Ending.values ts → length ts ≡ 1
 
 -- No call of a good module gets stuck, and where it ends with values it ends with one.
