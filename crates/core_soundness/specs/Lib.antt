@@ -1,0 +1,2 @@
+-- What holds of good modules.
+pub mod Laws
