@@ -1,9 +1,10 @@
 -- The first byte of a text that isn't UTF-8.
 use Rattle.std.proofs.Common.{◌≡◌, ℕ, zero, suc, ◌+◌, ◌-◌, ◌<◌, Bool, true, false, cond, nat_le, List, [], ◌∷◌, drop, Option, Some, None, refl, ap, sym, subst, arith}
 use Rattle.hipe_terms.specs.declared.place.Place.{Place}
-use Rattle.core_token.specs.declared.utf8.Sequence.{Sequence}
-use Rattle.core_token.specs.Places.{start, moved}
-use Rattle.core_token.specs.Utf8.{goes_on, sequence_of, longer_length, character_length, walk, go_on, character_step_by, character_step, no_place, ill_formed}
+use Rattle.core_text.specs.declared.utf8.Sequence.{Sequence}
+use Rattle.core_text.specs.Places.{start, moved}
+use Rattle.core_text.specs.Walks.{walk, go_on}
+use Rattle.core_text.specs.Utf8.{goes_on, sequence_of, longer_length, character_length, character_step_by, character_step, no_place, ill_formed}
 use Rattle.core_token.specs.Text.{IsUtf8, empty, character, IsIllFormed, at_front, behind_character}
 
 some_same : (k n : ℕ) (o : Option ℕ) → o ≡ Some k → o ≡ Some n → k ≡ n

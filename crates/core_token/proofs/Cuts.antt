@@ -9,15 +9,18 @@ use Rattle.core_token.specs.declared.token.TokenFault.{TokenFault}
 use Rattle.core_token.specs.declared.token.TokenFault.TheVariants.{Refused, Memory}
 use Rattle.core_token.specs.declared.lexeme.Lexeme.{Lexeme}
 use Rattle.core_token.specs.declared.scan.Scan.{Scan}
-use Rattle.core_token.specs.Places.{start, place_after}
-use Rattle.core_token.specs.Utf8.{walk, go_on, ill_formed}
-use Rattle.core_token.specs.Lexemes.{Found, lexeme, quoted_at, atom_of, text_of, escaped_character, character_at, is_sign_byte, number_at, greatest_integer, word_at, sign_at, unquoted_at, lexeme_at}
-use Rattle.core_token.specs.Escapes.{escape_at}
-use Rattle.core_token.specs.Bytes.{is_digit, is_upper, is_lower, is_word_byte, is_continuation, begins}
+use Rattle.core_text.specs.Places.{start, place_after}
+use Rattle.core_text.specs.Walks.{walk, go_on}
+use Rattle.core_text.specs.Utf8.{ill_formed}
+use Rattle.core_text.specs.CodePoints.{code_point_at}
+use Rattle.core_text.specs.Quotes.{quoted_at}
+use Rattle.core_text.specs.Fractions.{is_sign_byte}
+use Rattle.core_text.specs.Bytes.{is_digit, is_upper, is_lower, is_word_byte, begins}
+use Rattle.core_token.specs.Lexemes.{Found, lexeme, atom_of, text_of, character_by, number_at, greatest_integer, word_at, sign_at, unquoted_at, lexeme_at}
 use Rattle.core_token.specs.declared.token.Sort.{Sort}
-use Rattle.core_token.specs.declared.token.Sort.TheVariants.{Variable, Character}
-use Rattle.core_token.specs.declared.quoted.Quoted.{Quoted}
-use Rattle.core_token.specs.declared.escape.Escape.{Escape}
+use Rattle.core_token.specs.declared.token.Sort.TheVariants.{Variable}
+use Rattle.core_text.specs.declared.quoted.Quoted.{Quoted}
+use Rattle.core_text.specs.declared.code_point.CodePoint.{CodePoint}
 use Rattle.std.specs.List.{prefix_len}
 use Rattle.core_token.specs.Reading.{Reading, blank_length, passed, with_token, token_step, scan_step, scan_end, scan_start, scanned, Answers}
 use Rattle.core_token.proofs.Characters.{well_formed}
@@ -59,13 +62,9 @@ text_positive : (b : Option Quoted) (l : Lexeme) → text_of b ≡ Ok l → 0 < 
 text_positive None l h = cc
 text_positive (Some b) l h = grind arith
 
-escaped_positive : (e : Option Escape) (l : Lexeme) → escaped_character e ≡ Ok l → 0 < l.length
-escaped_positive None l h = cc
-escaped_positive (Some e) l h = grind arith
-
-character_positive : (s : List ℕ) (l : Lexeme) → character_at s ≡ Ok l → 0 < l.length
-character_positive [] l h = cc
-character_positive (c ∷ s) l h = either (nat_eq c 92) _ _ l (escaped_positive (escape_at s) l) (of_length Character (prefix_len is_continuation s + 2) l (omega arith)) h
+character_positive : (p : Option CodePoint) (l : Lexeme) → character_by p ≡ Ok l → 0 < l.length
+character_positive None l h = cc
+character_positive (Some p) l h = grind arith
 
 lexeme_positive : (s : List ℕ) (l : Lexeme) → lexeme_at s ≡ Ok l → 0 < l.length
 unfolding lexeme_at
@@ -73,7 +72,7 @@ lexeme_positive [] l h = cc
 lexeme_positive (c ∷ s) l h =
     either (nat_eq c 39) _ _ l (atom_positive (quoted_at 39 s) l)
     (either (nat_eq c 34) _ _ l (text_positive (quoted_at 34 s) l)
-    (either (nat_eq c 36) _ _ l (character_positive s l) (unquoted_positive (c ∷ s) l))) h
+    (either (nat_eq c 36) _ _ l (character_positive (code_point_at s) l) (unquoted_positive (c ∷ s) l))) h
 
 behind : (c : ℕ) (t : List ℕ) (n : ℕ) → 0 < n → drop (n - 1) t ≡ drop n (c ∷ t)
 behind c t zero some = absurd (omega (arith, some))

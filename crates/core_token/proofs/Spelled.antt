@@ -8,12 +8,15 @@ use Rattle.core_token.specs.declared.token.Sort.TheVariants.{Atom, Variable, Int
 use Rattle.core_token.specs.declared.token.TokenKind.{TokenKind}
 use Rattle.core_token.specs.declared.token.TokenKind.TheVariants.{Token, WideInteger, LongAtom}
 use Rattle.core_token.specs.declared.lexeme.Lexeme.{Lexeme}
-use Rattle.core_token.specs.declared.quoted.Quoted.{Quoted}
-use Rattle.core_token.specs.declared.escape.Escape.{Escape}
-use Rattle.core_token.specs.Bytes.{is_digit, is_upper, is_lower, is_word_byte, is_continuation, begins, number_from}
-use Rattle.core_token.specs.Escapes.{escape_at}
-use Rattle.core_token.specs.Lexemes.{Found, lexeme, quoted_at, most_code_points, atom_of, text_of, escaped_character as escaped_found, character_at, is_sign_byte, fraction_length, number_at, greatest_integer, farthest_below, is_word, is_short_sign, word_at, sign_at, unquoted_at, lexeme_at}
-use Rattle.core_token.specs.Spelling.{AreAll, IsSign, none, plus, minus, AreDigits, Spells, atom, text, character, escaped_character, variable, integer, float, word, sign, dash_sign}
+use Rattle.core_text.specs.declared.quoted.Quoted.{Quoted}
+use Rattle.core_text.specs.declared.code_point.CodePoint.{CodePoint}
+use Rattle.hipe_terms.specs.declared.limits.TheConstants.{ATOM_LIMIT}
+use Rattle.core_text.specs.Bytes.{is_digit, is_upper, is_lower, is_word_byte, begins, number_from}
+use Rattle.core_text.specs.CodePoints.{code_point_at}
+use Rattle.core_text.specs.Quotes.{quoted_at}
+use Rattle.core_text.specs.Fractions.{is_sign_byte, fraction_length}
+use Rattle.core_token.specs.Lexemes.{Found, lexeme, atom_of, text_of, character_by, number_at, greatest_integer, farthest_below, is_word, is_short_sign, word_at, sign_at, unquoted_at, lexeme_at}
+use Rattle.core_token.specs.Spelling.{AreAll, IsSign, none, plus, minus, AreDigits, Spells, atom, text, character, variable, integer, float, word, sign, dash_sign}
 
 abbrev pub Spelled : List ℕ → Found → Type 0
 Spelled s f = (l : Lexeme) → f ≡ Ok l → Spells l.sort (take l.length s) (drop l.length s)
@@ -52,36 +55,23 @@ rest_without test (c ∷ s) = rest_step test c s (test c) refl (rest_without tes
 more : (sort : Sort) (c : ℕ) (n : ℕ) (s : List ℕ) → Spells sort (c ∷ take n s) (drop n s) → Spells sort (take (n + 1) (c ∷ s)) (drop (n + 1) (c ∷ s))
 more sort c n s h = let e : suc n ≡ n + 1 = omega arith in subst (λ k. Spells sort (take k (c ∷ s)) (drop k (c ∷ s))) e h
 
-more_two : (sort : Sort) (c d : ℕ) (n : ℕ) (s : List ℕ) → Spells sort (c ∷ d ∷ take n s) (drop n s) → Spells sort (take (n + 2) (c ∷ d ∷ s)) (drop (n + 2) (c ∷ d ∷ s))
-more_two sort c d n s h = let e : suc (suc n) ≡ n + 2 = omega arith in subst (λ k. Spells sort (take k (c ∷ d ∷ s)) (drop k (c ∷ d ∷ s))) e h
-
 -- quotes
 atom_spelled : (s : List ℕ) (b : Option Quoted) → quoted_at 39 s ≡ b → Spelled (39 ∷ s) (atom_of b)
 atom_spelled s None is = not_made _ Token
 atom_spelled s (Some b) is =
-    split _ (nat_lt most_code_points b.code_points) _ _ (λ long. not_made _ LongAtom) (λ short. made _ Atom (b.length + 1) (more Atom 39 b.length s (atom s b is (grind (arith, nat_tests)))))
+    split _ (nat_lt ATOM_LIMIT b.code_points) _ _ (λ long. not_made _ LongAtom) (λ short. made _ Atom (b.length + 1) (more Atom 39 b.length s (atom s b is (grind (arith, nat_tests)))))
 
 text_spelled : (s : List ℕ) (b : Option Quoted) → quoted_at 34 s ≡ b → Spelled (34 ∷ s) (text_of b)
 text_spelled s None is = not_made _ Token
 text_spelled s (Some b) is = made _ Text (b.length + 1) (more Text 34 b.length s (text s b is))
 
 -- characters
-escape_spelled : (s : List ℕ) (e : Option Escape) → escape_at s ≡ e → Spelled (36 ∷ 92 ∷ s) (escaped_found e)
-escape_spelled s None is = not_made _ Token
-escape_spelled s (Some e) is = made _ Character (e.length + 2) (more_two Character 36 92 e.length s (escaped_character s e is))
+character_spelled : (s : List ℕ) (p : Option CodePoint) → code_point_at s ≡ p → Spelled (36 ∷ s) (character_by p)
+character_spelled s None is = not_made _ Token
+character_spelled s (Some p) is = made _ Character (p.length + 1) (more Character 36 p.length s (character s p is))
 
 equal : (a b : ℕ) → nat_eq a b ≡ true → b ≡ a
 equal a b h = grind (arith, nat_tests)
-
-differs : (a b : ℕ) → nat_eq a b ≡ false → a ≡ b → ⊥
-differs a b h e = grind (arith, nat_tests)
-
-character_spelled : (s : List ℕ) → Spelled (36 ∷ s) (character_at s)
-character_spelled [] = not_made _ Token
-character_spelled (c ∷ s) =
-    split _ (nat_eq c 92) _ _ (λ is. subst (λ d. Spelled (36 ∷ d ∷ s) (escaped_found (escape_at s))) (equal c 92 is) (escape_spelled s (escape_at s) refl))
-    (λ is. made _ Character (prefix_len is_continuation s + 2)
-    (more_two Character 36 c (prefix_len is_continuation s) s (character (differs c 92 is) (front_all is_continuation s) (rest_without is_continuation s))))
 
 -- words, variables and signs
 word_spelled : (c : ℕ) (s : List ℕ) → Spelled (c ∷ s) (word_at (c ∷ s))
@@ -198,4 +188,4 @@ spelled [] = not_made _ Token
 spelled (c ∷ s) =
     split _ (nat_eq c 39) _ _ (λ is. subst (λ d. Spelled (d ∷ s) (atom_of (quoted_at 39 s))) (equal c 39 is) (atom_spelled s (quoted_at 39 s) refl))
     (λ no. split _ (nat_eq c 34) _ _ (λ is. subst (λ d. Spelled (d ∷ s) (text_of (quoted_at 34 s))) (equal c 34 is) (text_spelled s (quoted_at 34 s) refl))
-    (λ no. split _ (nat_eq c 36) _ _ (λ is. subst (λ d. Spelled (d ∷ s) (character_at s)) (equal c 36 is) (character_spelled s)) (λ no. unquoted_spelled c s)))
+    (λ no. split _ (nat_eq c 36) _ _ (λ is. subst (λ d. Spelled (d ∷ s) (character_by (code_point_at s))) (equal c 36 is) (character_spelled s (code_point_at s) refl)) (λ no. unquoted_spelled c s)))

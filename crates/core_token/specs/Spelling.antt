@@ -2,13 +2,16 @@
 -- longest token is taken, so nothing that would make it longer stands in us.
 use Rattle.std.specs.Prelude.{◌≡◌, ℕ, ◌<◌, ◌≤◌, Bool, true, false, ◌||◌, ◌==◌, List, [], ◌∷◌, ◌++◌, length, take, drop, Some}
 use Rattle.std.specs.List.{AllByRecursion}
+use Rattle.hipe_terms.specs.declared.limits.TheConstants.{ATOM_LIMIT}
+use Rattle.core_text.specs.declared.quoted.Quoted.{Quoted}
+use Rattle.core_text.specs.declared.code_point.CodePoint.{CodePoint}
+use Rattle.core_text.specs.Bytes.{is_digit, is_upper, is_word_byte, begins, number_from}
+use Rattle.core_text.specs.CodePoints.{code_point_at}
+use Rattle.core_text.specs.Quotes.{quoted_at}
+use Rattle.core_text.specs.Fractions.{fraction_length}
 use Rattle.core_token.specs.declared.token.Sort.{Sort}
 use Rattle.core_token.specs.declared.token.Sort.TheVariants.{Atom, Variable, Integer, Float, Character, Text, Word, Sign}
-use Rattle.core_token.specs.declared.escape.Escape.{Escape}
-use Rattle.core_token.specs.declared.quoted.Quoted.{Quoted}
-use Rattle.core_token.specs.Bytes.{is_digit, is_upper, is_word_byte, is_continuation, begins, number_from}
-use Rattle.core_token.specs.Escapes.{escape_at}
-use Rattle.core_token.specs.Lexemes.{quoted_at, most_code_points, fraction_length, greatest_integer, farthest_below, is_word, is_short_sign}
+use Rattle.core_token.specs.Lexemes.{greatest_integer, farthest_below, is_word, is_short_sign}
 
 abbrev pub AreAll : (ℕ → Bool) → List ℕ → Type 0
 AreAll test cs = AllByRecursion (λ c. test c ≡ true) cs
@@ -24,10 +27,9 @@ abbrev pub AreDigits : List ℕ → List ℕ → Type 0
 AreDigits ds us = (0 < length ds) × AreAll is_digit ds × (begins is_digit us ≡ false)
 
 pub data Spells : Sort → List ℕ → List ℕ → Type 0 where
-  atom : (s : List ℕ) (b : Quoted) → quoted_at 39 s ≡ Some b → b.code_points ≤ most_code_points → Spells Atom (39 ∷ take b.length s) (drop b.length s)
+  atom : (s : List ℕ) (b : Quoted) → quoted_at 39 s ≡ Some b → b.code_points ≤ ATOM_LIMIT → Spells Atom (39 ∷ take b.length s) (drop b.length s)
   text : (s : List ℕ) (b : Quoted) → quoted_at 34 s ≡ Some b → Spells Text (34 ∷ take b.length s) (drop b.length s)
-  character : {c : ℕ} {cs us : List ℕ} → (c ≡ 92 → ⊥) → AreAll is_continuation cs → begins is_continuation us ≡ false → Spells Character (36 ∷ c ∷ cs) us
-  escaped_character : (s : List ℕ) (e : Escape) → escape_at s ≡ Some e → Spells Character (36 ∷ 92 ∷ take e.length s) (drop e.length s)
+  character : (s : List ℕ) (p : CodePoint) → code_point_at s ≡ Some p → Spells Character (36 ∷ take p.length s) (drop p.length s)
   variable : {c : ℕ} {cs us : List ℕ} → (is_upper c || c == 95) ≡ true → AreAll is_word_byte cs → begins is_word_byte us ≡ false → Spells Variable (c ∷ cs) us
   integer : {ss : List ℕ} {most : ℕ} (ds us : List ℕ) → IsSign ss most → AreDigits ds us → fraction_length us ≡ 0 → number_from 10 0 ds ≤ most → Spells Integer (ss ++ ds) us
   float : {ss : List ℕ} {most : ℕ} (ds us : List ℕ) → IsSign ss most → AreDigits ds us → 0 < fraction_length us

@@ -6,11 +6,11 @@ use Rattle.core_token.specs.declared.token.Token.{Token}
 use Rattle.core_token.specs.declared.token.TokenKind.{TokenKind}
 use Rattle.core_token.specs.declared.token.TokenFault.{TokenFault}
 use Rattle.core_token.specs.declared.token.TokenFault.TheVariants.{Refused, Memory}
-use Rattle.core_token.specs.Places.{start, moved, place_after}
+use Rattle.core_text.specs.Places.{start, moved, place_after}
 use Rattle.core_token.specs.Lexemes.{lexeme_at}
 use Rattle.core_token.specs.Spelling.{Spells}
 use Rattle.core_token.specs.Reading.{blank_length}
-use Rattle.core_token.specs.Utf8.{character_length}
+use Rattle.core_text.specs.Utf8.{character_length}
 
 -- each character of a text is well formed
 pub data IsUtf8 : List ℕ → Type 0 where

@@ -1,15 +1,15 @@
 // The tokens of a whole text.
 
 ghost use Rattle.std.specs.Prelude.{◌≡◌, ℕ, ◌+◌, ◌<◌, ◌≤◌, ◌^◌, [], length, IfOk};
-ghost use Rattle.core_token.specs.Places.{start};
+ghost use Rattle.core_text.specs.Places.{start};
 ghost use Rattle.core_token.specs.Text.{IsUtf8, HasTokens, AnswersFault};
 ghost use Rattle.core_token.specs.Reading.{blank_length, scan_step, scan_start, scanned, read, Answers, AnswersStep};
 
-use crate::bytes::{bytes_before_line_end, front, is_space, rest_from};
 use crate::lexeme::lexeme_at;
-use crate::place::{place_after, start};
 use crate::token::{Token, TokenFault, TokenKind, Tokens};
-use crate::utf8::ill_formed;
+use core_text::bytes::{bytes_before_line_end, front, is_space, rest_from};
+use core_text::place::{place_after, start};
+use core_text::utf8::ill_formed;
 use hipe_terms::Place;
 use std::alloc::Global;
 
