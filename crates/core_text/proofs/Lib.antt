@@ -1,2 +1,9 @@
 pub mod Walks
 pub mod Numbers
+pub mod Fronts
+pub mod Encodings
+pub mod Escaping
+pub mod Points
+pub mod Quoting
+pub mod Fractions
+pub mod IllFormed

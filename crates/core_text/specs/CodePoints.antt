@@ -6,6 +6,10 @@ use Rattle.core_text.specs.Escapes.{escape_at}
 use Rattle.core_text.specs.Utf8.{character_length}
 use Rattle.core_text.specs.Walks.{walk}
 
+-- a code point v of n bytes
+abbrev pub point : ℕ → ℕ → Option CodePoint
+point v n = Some (record { value = v; length = n })
+
 -- the bits of a code point that its first byte has
 abbrev pub first_bits : ℕ → ℕ
 first_bits c = if nat_le c 127 then c else (if nat_le c 223 then c - 192 else (if nat_le c 239 then c - 224 else c - 240))
@@ -18,12 +22,12 @@ with_bits n (b ∷ bs) = with_bits (n * 64 + (b - 128)) bs
 -- the code point of a character of n bytes
 abbrev pub decoded : Option ℕ → ℕ → List ℕ → Option CodePoint
 decoded None c s = None
-decoded (Some n) c s = Some (record { value = with_bits (first_bits c) (take (n - 1) s); length = n })
+decoded (Some n) c s = point (with_bits (first_bits c) (take (n - 1) s)) n
 
 -- the code point of an escape behind its backslash
 abbrev pub escaped : Option Escape → Option CodePoint
 escaped None = None
-escaped (Some e) = Some (record { value = e.value; length = e.length + 1 })
+escaped (Some e) = point e.value (e.length + 1)
 
 -- the code point at the front, as itself or by an escape
 unfoldable pub code_point_at : List ℕ → Option CodePoint

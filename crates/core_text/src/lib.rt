@@ -17,6 +17,7 @@ pub mod bytes;
 pub mod code_point;
 pub mod escape;
 pub mod fraction;
+pub mod laws;
 pub mod place;
 pub mod quoted;
 pub mod utf8;

@@ -1,6 +1,8 @@
 // The first byte of a text that isn't UTF-8.
 
-ghost use Rattle.std.specs.Prelude.{◌≡◌, ℕ, ◌+◌, ◌^◌, ◌<◌, ◌≤◌, true, length, IfSome};
+ghost use Rattle.std.specs.Prelude.{◌≡◌, ℕ, ◌+◌, ◌^◌, ◌<◌, ◌≤◌, true, length, IfSome, IfNone};
+ghost use Rattle.std.specs.Str.{IsUtf8};
+ghost use Rattle.core_text.specs.Characters.{IsIllFormed};
 ghost use Rattle.core_text.specs.Utf8.{sequence_of, goes_on, character_length, ill_formed};
 
 use crate::bytes::{continuations, rest_from};
@@ -74,7 +76,10 @@ pub fn character_length(text: &[u8]) -> Option<usize>
 #[tactic(auto, using(crate::proofs::Walks::walks), unfolding(crate::specs::Utf8::ill_formed))]
 pub fn ill_formed(text: &[u8]) -> Option<Place>
     requires { length text.now < 2 ^ 32 }
-    ensures { result ≡ ill_formed text.now }
+    ensures place { result ≡ ill_formed text.now }
+    // The text is UTF-8, or this is the place of the first byte that isn't.
+    ensures utf8 { IfNone result (IsUtf8 text.now) }
+    ensures first { IfSome result (λ at. IsIllFormed text.now at) }
 {
     let mut at = start();
     let mut offset = 0;
