@@ -13,7 +13,7 @@ pub passing : (test : ℕ → Bool) (s : List ℕ) → BeginsWith (ArePassing te
 passing test [] = record { front = []; rest = []; is = refl; size = refl; holds = (tt, refl) }
 passing test (c ∷ s) = front_step test c s (test c) refl (passing test s)
 
-stops : (test : ℕ → Bool) (us : List ℕ) → begins test us ≡ false → prefix_len test us ≡ 0
+pub stops : (test : ℕ → Bool) (us : List ℕ) → begins test us ≡ false → prefix_len test us ≡ 0
 stops test [] out = refl
 stops test (u ∷ us) out = ap (λ b. cond b (1 + prefix_len test us) 0) out
 

@@ -7,3 +7,4 @@ pub mod Points
 pub mod Quoting
 pub mod Fractions
 pub mod IllFormed
+pub mod Scalars

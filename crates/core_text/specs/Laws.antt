@@ -1,5 +1,6 @@
 -- What is read at the front of a text is what is spelled there, and what is spelled there is read: each law says both.
 use Rattle.std.specs.Prelude.{◌≡◌, ℕ, ◌-◌, ◌<◌, List, ◌++◌, length, take, Some, None}
+use Rattle.std.specs.Char.{IsScalar}
 use Rattle.std.specs.Str.{IsUtf8}
 use Rattle.hipe_terms.specs.declared.place.Place.{Place}
 use Rattle.core_text.specs.declared.escape.Escape.{Escape}
@@ -21,6 +22,7 @@ pub record EscapesAreRead : Type 0 where
 pub record CodePointsAreRead : Type 0 where
   pub read : (s : List ℕ) (p : CodePoint) → code_point_at s ≡ Some p → BeginsWith (IsCodePoint p.value) s p.length
   pub spelled : (v : ℕ) (cs us : List ℕ) → IsCodePoint v cs us → code_point_at (cs ++ us) ≡ point v (length cs)
+  pub scalar : (v : ℕ) (cs us : List ℕ) → IsCodePoint v cs us → IsScalar v
 
 -- the code points between quotes, and what stands there
 pub record HasQuoted (quote : ℕ) (s : List ℕ) (r : Quoted) : Type 0 where

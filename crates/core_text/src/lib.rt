@@ -11,6 +11,7 @@
 //   code_point.rt   code points, as themselves and by escapes
 //   quoted.rt       what stands between quotes
 //   fraction.rt     what makes a float of an integer
+//   laws.rt         what is read is what is spelled
 #![tactic(auto)]
 
 pub mod bytes;

@@ -3,3 +3,4 @@ pub mod Reading
 pub mod Values
 pub mod Spelling
 pub mod Text
+pub mod Laws

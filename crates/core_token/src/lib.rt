@@ -12,14 +12,17 @@
 //   lexeme.rt     the token at the front of a text
 //   scan.rt       the tokens of a whole text
 //   value.rt      what tokens mean: numbers and code points
+//   laws.rt       what holds of the tokens of every text
 #![tactic(auto)]
 
+mod laws;
 mod lexeme;
 mod number;
 mod scan;
 mod token;
 mod value;
 
+pub use laws::{tokens_are_read, tokens_are_unique, tokens_stand, values_are_read};
 pub use scan::tokens;
 pub use token::{Sort, Token, TokenFault, TokenKind, Tokens};
 pub use value::{character_of, code_points_of, integer_of};

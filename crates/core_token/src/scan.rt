@@ -2,7 +2,8 @@
 
 ghost use Rattle.std.specs.Prelude.{◌≡◌, ℕ, ◌+◌, ◌<◌, ◌≤◌, ◌^◌, [], length, IfOk};
 ghost use Rattle.core_text.specs.Places.{start};
-ghost use Rattle.core_token.specs.Text.{IsUtf8, HasTokens, AnswersFault};
+ghost use Rattle.std.specs.Str.{IsUtf8};
+ghost use Rattle.core_token.specs.Text.{HasTokens, AnswersFault};
 ghost use Rattle.core_token.specs.Reading.{blank_length, scan_step, scan_start, scanned, read, Answers, AnswersStep};
 
 use crate::lexeme::lexeme_at;
