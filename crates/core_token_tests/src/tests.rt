@@ -1,144 +1,13 @@
-// Tables of texts with their tokens and faults.
+// The tables of texts, gone through.
 
-use core_token::Sort::{Atom, Character, Float, Integer, Sign, Text, Variable, Word};
-use core_token::{Sort, Token, TokenFault, TokenKind, tokens};
+use crate::tables::{CHARACTERS, FAULTS, INTEGERS, QUOTED, TOKENS};
+use core_token::Sort::{Atom, Character, Integer};
+use core_token::{
+    Sort, Token, TokenFault, TokenKind, character_of, code_points_of, integer_of, tokens,
+};
 use hipe_terms::Place;
 use std::alloc::Global;
 use std::test::Fail;
-
-// Texts and their tokens.
-const TOKENS: [(&[u8], &[(Sort, u64, u64, u32, u32)]); 24] = [
-    (b"", &[]),
-    (b" \t\r\n\x0B\x0C% 'x\n", &[]),
-    (b"% the last line", &[]),
-    (b"''", &[(Atom, 1, 1, 0, 2)]),
-    (
-        b"'a\\'b'Xy@1_",
-        &[(Atom, 1, 1, 0, 6), (Variable, 1, 7, 6, 11)],
-    ),
-    (b"_ _1", &[(Variable, 1, 1, 0, 1), (Variable, 1, 3, 2, 4)]),
-    (b"'a\nb' X", &[(Atom, 1, 1, 0, 5), (Variable, 2, 4, 6, 7)]),
-    (
-        b"\"a\r\nb\" X",
-        &[(Text, 1, 1, 0, 6), (Variable, 2, 4, 7, 8)],
-    ),
-    (
-        b"'\xC3\xA9\xE2\x82\xAC\xF0\x9F\x98\x80' X",
-        &[(Atom, 1, 1, 0, 11), (Variable, 1, 7, 12, 13)],
-    ),
-    (
-        b"$\xE2\x82\xACX",
-        &[(Character, 1, 1, 0, 4), (Variable, 1, 3, 4, 5)],
-    ),
-    (b"1-2", &[(Integer, 1, 1, 0, 1), (Integer, 1, 2, 1, 3)]),
-    (b"-1+1", &[(Integer, 1, 1, 0, 2), (Integer, 1, 3, 2, 4)]),
-    (
-        b"1.5 1.5e3 -1.5E-10",
-        &[
-            (Float, 1, 1, 0, 3),
-            (Float, 1, 5, 4, 9),
-            (Float, 1, 11, 10, 18),
-        ],
-    ),
-    (b"576460752303423487", &[(Integer, 1, 1, 0, 18)]),
-    (b"-00576460752303423488", &[(Integer, 1, 1, 0, 21)]),
-    (b"999999999999999999999.5", &[(Float, 1, 1, 0, 23)]),
-    (
-        b"$ $\n$a$\\\\",
-        &[
-            (Character, 1, 1, 0, 2),
-            (Character, 1, 3, 2, 4),
-            (Character, 2, 1, 4, 6),
-            (Character, 2, 3, 6, 9),
-        ],
-    ),
-    (
-        b"$\\^@$\\^_$\\7$\\377$\\1234",
-        &[
-            (Character, 1, 1, 0, 4),
-            (Character, 1, 5, 4, 8),
-            (Character, 1, 9, 8, 11),
-            (Character, 1, 12, 11, 16),
-            (Character, 1, 17, 16, 21),
-            (Integer, 1, 22, 21, 22),
-        ],
-    ),
-    (
-        b"$\\x41$\\x{10FFFF}$\\x{0d7ff}",
-        &[
-            (Character, 1, 1, 0, 5),
-            (Character, 1, 6, 5, 16),
-            (Character, 1, 17, 16, 26),
-        ],
-    ),
-    (
-        b"\"\\b\\d\\e\\f\\n\\r\\s\\t\\v\\\"\\'\\\\\"",
-        &[(Text, 1, 1, 0, 26)],
-    ),
-    (
-        b"let letrec\tin",
-        &[
-            (Word, 1, 1, 0, 3),
-            (Word, 1, 5, 4, 10),
-            (Word, 1, 12, 11, 13),
-        ],
-    ),
-    (
-        b"fun()->X",
-        &[
-            (Word, 1, 1, 0, 3),
-            (Sign, 1, 4, 3, 4),
-            (Sign, 1, 5, 4, 5),
-            (Sign, 1, 6, 5, 7),
-            (Variable, 1, 8, 7, 8),
-        ],
-    ),
-    (
-        b"-|->||#",
-        &[
-            (Sign, 1, 1, 0, 2),
-            (Sign, 1, 3, 2, 4),
-            (Sign, 1, 5, 4, 5),
-            (Sign, 1, 6, 5, 6),
-            (Sign, 1, 7, 6, 7),
-        ],
-    ),
-    (b"X%'\n\nin", &[(Variable, 1, 1, 0, 1), (Word, 3, 1, 5, 7)]),
-];
-
-// Texts and their first faults.
-const FAULTS: [(&[u8], TokenKind, u64, u64); 30] = [
-    (b"inn", TokenKind::Token, 1, 1),
-    (b" in_", TokenKind::Token, 1, 2),
-    (b"in@", TokenKind::Token, 1, 1),
-    (b"X - 2", TokenKind::Token, 1, 3),
-    (b"1.5e", TokenKind::Token, 1, 4),
-    (b"1.", TokenKind::Token, 1, 2),
-    (b"16#ff", TokenKind::Token, 1, 4),
-    (b"'", TokenKind::Token, 1, 1),
-    (b"\n 'a", TokenKind::Token, 2, 2),
-    (b"\"a", TokenKind::Token, 1, 1),
-    (b"'a\\q'", TokenKind::Token, 1, 1),
-    (b"$", TokenKind::Token, 1, 1),
-    (b"$\\q", TokenKind::Token, 1, 1),
-    (b"$\\8", TokenKind::Token, 1, 1),
-    (b"$\\^a", TokenKind::Token, 1, 1),
-    (b"$\\^?", TokenKind::Token, 1, 1),
-    (b"$\\x4", TokenKind::Token, 1, 1),
-    (b"$\\x{}", TokenKind::Token, 1, 1),
-    (b"$\\x{d800}", TokenKind::Token, 1, 1),
-    (b"$\\x{dfff}", TokenKind::Token, 1, 1),
-    (b"$\\x{110000}", TokenKind::Token, 1, 1),
-    (b"576460752303423488", TokenKind::WideInteger, 1, 1),
-    (b"X +576460752303423488", TokenKind::WideInteger, 1, 3),
-    (b"-576460752303423489", TokenKind::WideInteger, 1, 1),
-    (b"\xEF\xBB\xBFmodule", TokenKind::Token, 1, 1),
-    (b"'\xE2\x82\xAC'\xC3\xA9", TokenKind::Token, 1, 4),
-    (b"; \xFF", TokenKind::Token, 1, 3),
-    (b"'\xE2\x82'", TokenKind::Token, 1, 2),
-    (b"X\xC0\x80", TokenKind::Token, 1, 2),
-    (b"X\xED\xA0\x80", TokenKind::Token, 1, 2),
-];
 
 // A token with its line, its column and its bytes.
 fn token(row: &(Sort, u64, u64, u32, u32)) -> Token {
@@ -218,5 +87,57 @@ fn keeps_to_255_code_points(rt: HostRuntime) -> Result<(), Fail> {
     assert!(rt; has_tokens(rt.alloc(), fits.as_slice(), &[(Atom, 1, 1, 0, 260)])?);
     let long = long_atom(rt.alloc(), 256)?;
     assert!(rt; has_fault(rt.alloc(), long.as_slice(), TokenKind::LongAtom, 1, 1));
+    Ok(())
+}
+
+// Whether a text of few bytes is one token of this sort.
+fn is_one(alloc: Global, text: &[u8], sort: Sort) -> Result<bool, TokenFault> {
+    if text.len() > 1000 {
+        return Ok(false);
+    }
+    has_tokens(alloc, text, &[(sort, 1, 1, 0, text.len() as u32)])
+}
+
+// The code point of a character of few bytes.
+fn character(text: &[u8]) -> Option<u32> {
+    if text.is_empty() || text.len() > 1000 {
+        return None;
+    }
+    character_of(text)
+}
+
+// Whether these are the code points of an atom or of a text of few bytes.
+fn has_code_points(alloc: Global, text: &[u8], values: &[u32]) -> Result<bool, Fail> {
+    if text.len() < 2 || text.len() > 1000 {
+        return Ok(false);
+    }
+    let found = code_points_of(alloc, text)?;
+    Ok(found.as_slice() == values)
+}
+
+#[test]
+fn reads_characters(rt: HostRuntime) -> Result<(), Fail> {
+    for (text, value) in CHARACTERS {
+        assert!(rt; is_one(rt.alloc(), text, Character)?, "{text:?}");
+        assert!(rt; character(text) == Some(value), "{text:?}");
+    }
+    Ok(())
+}
+
+#[test]
+fn reads_integers(rt: HostRuntime) -> Result<(), Fail> {
+    for (text, value) in INTEGERS {
+        assert!(rt; is_one(rt.alloc(), text, Integer)?, "{text:?}");
+        assert!(rt; integer_of(text) == Some(value), "{text:?}");
+    }
+    Ok(())
+}
+
+#[test]
+fn reads_code_points(rt: HostRuntime) -> Result<(), Fail> {
+    for (text, sort, values) in QUOTED {
+        assert!(rt; is_one(rt.alloc(), text, sort)?, "{text:?}");
+        assert!(rt; has_code_points(rt.alloc(), text, values)?, "{text:?}");
+    }
     Ok(())
 }
