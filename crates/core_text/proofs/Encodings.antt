@@ -63,18 +63,18 @@ scalar_low v h = grind (arith, nat_tests)
 scalar_high : (v : ℕ) → 57344 ≤ v → v < 1114112 → IsScalar v
 scalar_high v h k = grind (arith, nat_tests)
 
-abbrev next : ℕ → ℕ
+abbrev pub next : ℕ → ℕ
 next v = 128 + v % 64
 
-encode_two : (v : ℕ) → 128 ≤ v → v < 2048 → encode_utf8 v ≡ (192 + v / 64) ∷ next v ∷ []
+pub encode_two : (v : ℕ) → 128 ≤ v → v < 2048 → encode_utf8 v ≡ (192 + v / 64) ∷ next v ∷ []
 unfolding encode_utf8
 encode_two v low high = simp (lt_false v 128 low, lt_true v 2048 high)
 
-encode_three : (v : ℕ) → 2048 ≤ v → v < 65536 → encode_utf8 v ≡ (224 + v / 4096) ∷ next (v / 64) ∷ next v ∷ []
+pub encode_three : (v : ℕ) → 2048 ≤ v → v < 65536 → encode_utf8 v ≡ (224 + v / 4096) ∷ next (v / 64) ∷ next v ∷ []
 unfolding encode_utf8
 encode_three v low high = simp (lt_false v 128 (omega arith), lt_false v 2048 low, lt_true v 65536 high)
 
-encode_four : (v : ℕ) → 65536 ≤ v → encode_utf8 v ≡ (240 + v / 262144) ∷ next (v / 4096) ∷ next (v / 64) ∷ next v ∷ []
+pub encode_four : (v : ℕ) → 65536 ≤ v → encode_utf8 v ≡ (240 + v / 262144) ∷ next (v / 4096) ∷ next (v / 64) ∷ next v ∷ []
 unfolding encode_utf8
 encode_four v low = simp (lt_false v 128 (omega arith), lt_false v 2048 (omega arith), lt_false v 65536 low)
 
@@ -87,7 +87,7 @@ triple a b c d e f p q r = cc
 quadruple : (a b c d e f g h : ℕ) → a ≡ e → b ≡ f → c ≡ g → d ≡ h → a ∷ b ∷ c ∷ d ∷ [] ≡ e ∷ f ∷ g ∷ h ∷ []
 quadruple a b c d e f g h p q r s = cc
 
-pub two_is : (c d : ℕ) → Two c d → IsCharacter (of_two c d) (c ∷ d ∷ [])
+two_is : (c d : ℕ) → Two c d → IsCharacter (of_two c d) (c ∷ d ∷ [])
 two_is c d t =
     let v = of_two c d in
     (scalar_low v (omega (arith, t)), encode_two v (omega (arith, t)) (omega (arith, t)) ∙ pair _ _ c d (omega (arith, t)) (omega (arith, t)))
@@ -110,7 +110,7 @@ above_224 c d e t (inl h) = absurd (omega (arith, t.first_low, h))
 above_224 c d e t (inr (inl h)) = omega (arith, t.at_224 h, h)
 above_224 c d e t (inr (inr h)) = omega (arith, h)
 
-pub three_is : (c d e : ℕ) → Three c d e → IsCharacter (of_three c d e) (c ∷ d ∷ e ∷ [])
+three_is : (c d e : ℕ) → Three c d e → IsCharacter (of_three c d e) (c ∷ d ∷ e ∷ [])
 three_is c d e t =
     let v = of_three c d e in (
       three_scalar c d e t (three_range c (around c 237)),
@@ -127,7 +127,7 @@ above_240 c d e f t (inl h) = absurd (omega (arith, t.first_low, h))
 above_240 c d e f t (inr (inl h)) = omega (arith, t.at_240 h, h)
 above_240 c d e f t (inr (inr h)) = omega (arith, h)
 
-pub four_is : (c d e f : ℕ) → Four c d e f → IsCharacter (of_four c d e f) (c ∷ d ∷ e ∷ f ∷ [])
+four_is : (c d e f : ℕ) → Four c d e f → IsCharacter (of_four c d e f) (c ∷ d ∷ e ∷ f ∷ [])
 four_is c d e f t =
     let v = of_four c d e f in
     let low : 65536 ≤ v = above_240 c d e f t (around c 240) in (
@@ -136,10 +136,10 @@ four_is c d e f t =
     )
 
 -- and the other way round: the bytes of a code point
-pub two_of : (v : ℕ) → 128 ≤ v → v < 2048 → Two (192 + v / 64) (next v)
+two_of : (v : ℕ) → 128 ≤ v → v < 2048 → Two (192 + v / 64) (next v)
 two_of v low high = record { first_low = omega arith; first_high = omega arith; second_low = omega arith; second_high = omega arith }
 
-pub three_of : (v : ℕ) → 2048 ≤ v → v < 65536 → (v < 55296) ⊎ (57344 ≤ v) → Three (224 + v / 4096) (next (v / 64)) (next v)
+three_of : (v : ℕ) → 2048 ≤ v → v < 65536 → (v < 55296) ⊎ (57344 ≤ v) → Three (224 + v / 4096) (next (v / 64)) (next v)
 three_of v low high s = record {
   first_low = omega arith;
   first_high = omega arith;
@@ -151,7 +151,7 @@ three_of v low high s = record {
   third_high = omega arith;
 }
 
-pub four_of : (v : ℕ) → 65536 ≤ v → v < 1114112 → Four (240 + v / 262144) (next (v / 4096)) (next (v / 64)) (next v)
+four_of : (v : ℕ) → 65536 ≤ v → v < 1114112 → Four (240 + v / 262144) (next (v / 4096)) (next (v / 64)) (next v)
 four_of v low high = record {
   first_low = omega arith;
   first_high = omega arith;
@@ -166,7 +166,7 @@ four_of v low high = record {
 }
 
 -- a number of 0 to 127 is itself
-encode_one : (v : ℕ) → v < 128 → encode_utf8 v ≡ v ∷ []
+pub encode_one : (v : ℕ) → v < 128 → encode_utf8 v ≡ v ∷ []
 unfolding encode_utf8
 encode_one v h = simp (lt_true v 128 h)
 
@@ -483,14 +483,14 @@ decodes_by v us is (inr (inr (inr low))) =
     subst (Decodes v us) (sym (encode_four v low))
     (decodes_four v (240 + v / 262144) (next (v / 4096)) (next (v / 64)) (next v) us (four_of v low (scalar_below v is)) (omega arith))
 
-sizes : (v : ℕ) → (v < 128) ⊎ ((128 ≤ v) × (v < 2048)) ⊎ ((2048 ≤ v) × (v < 65536)) ⊎ (65536 ≤ v)
+pub sizes : (v : ℕ) → (v < 128) ⊎ ((128 ≤ v) × (v < 2048)) ⊎ ((2048 ≤ v) × (v < 65536)) ⊎ (65536 ≤ v)
 sizes v = grind arith
 
 pub decodes : (v : ℕ) (cs us : List ℕ) → IsCharacter v cs → Decodes v us cs
 decodes v cs us (is, e) = subst (Decodes v us) e (decodes_by v us is (sizes v))
 
 -- the bytes of a character but its first
-next_continues : (v : ℕ) → is_continuation (next v) ≡ true
+pub next_continues : (v : ℕ) → is_continuation (next v) ≡ true
 next_continues v = let low : 128 ≤ next v = omega arith in let high : next v ≤ 191 = omega arith in continuation (next v) low high
 
 abbrev pub Continuing : List ℕ → Type 0

@@ -37,7 +37,7 @@ signed_cases : (c : ℕ) (s : List ℕ) (b : Bool) → is_sign_byte c ≡ b → 
 signed_cases c s true is = signed_by c s (nat_eq c 45) refl is
 signed_cases c s false is = (false, record { front = []; rest = c ∷ s; is = refl; size = refl; holds = none })
 
-pub sign_there : (s : List ℕ) → Signed s
+sign_there : (s : List ℕ) → Signed s
 sign_there [] = record { negative = false; there = record { front = []; rest = []; is = refl; size = refl; holds = none } }
 sign_there (c ∷ s) = let g = signed_cases c s (is_sign_byte c) refl in record { negative = g.0; there = g.1 }
 
@@ -57,7 +57,7 @@ sign_read ss ds us b minus h = refl
 pub digits_there : (s : List ℕ) → 0 < prefix_len is_digit s → BeginsWith AreDigits s (prefix_len is_digit s)
 digits_there s some = let f = passing is_digit s in record { front = f.front; rest = f.rest; is = f.is; size = f.size; holds = (omega (arith, some, f.size), f.holds) }
 
-pub digits_read : (ds us : List ℕ) → AreDigits ds us → prefix_len is_digit (ds ++ us) ≡ length ds
+digits_read : (ds us : List ℕ) → AreDigits ds us → prefix_len is_digit (ds ++ us) ≡ length ds
 digits_read ds us h = count is_digit ds us h.1.0 h.1.1
 
 -- exponents
@@ -89,14 +89,14 @@ exponent_by : (c : ℕ) (t : List ℕ) (b : Bool) → is_mark c ≡ b
 exponent_by c t true is some = scaled_there c t (sign_length t) (prefix_len is_digit (drop (sign_length t + 1) (c ∷ t))) _ refl is (sign_there t) refl refl some
 exponent_by c t false is some = absurd (omega (arith, some))
 
-pub exponent_there : (s : List ℕ) → 0 < exponent_length s → BeginsWith IsExponent s (exponent_length s)
+exponent_there : (s : List ℕ) → 0 < exponent_length s → BeginsWith IsExponent s (exponent_length s)
 exponent_there [] some = absurd (omega (arith, some))
 exponent_there (c ∷ t) some = exponent_by c t (is_mark c) refl some
 
 scaled_read : (n k m : ℕ) → 0 < n → n + (k + 1) ≡ m → scaled n k ≡ m
 scaled_read n k m some e = ap (λ b. cond b 0 (n + (k + 1))) (not_zero n some) ∙ e
 
-pub exponent_read : (cs us : List ℕ) → IsExponent cs us → exponent_length (cs ++ us) ≡ length cs
+exponent_read : (cs us : List ℕ) → IsExponent cs us → exponent_length (cs ++ us) ≡ length cs
 exponent_read cs us (exponent {e = e} {ss = ss} {b = b} ds vs mark sign digits) =
     let t = (ss ++ ds) ++ us in
     let rest : t ≡ ss ++ (ds ++ us) = append_assoc ss ds us in
@@ -110,14 +110,14 @@ exponent_read cs us (exponent {e = e} {ss = ss} {b = b} ds vs mark sign digits) 
 exponent_some : (cs us : List ℕ) → IsExponent cs us → 0 < length cs
 exponent_some cs us (exponent ds vs mark sign digits) = omega arith
 
-pub no_exponent : (s : List ℕ) → exponent_length s ≡ 0 → BeginsWithNone IsExponent s
+no_exponent : (s : List ℕ) → exponent_length s ≡ 0 → BeginsWithNone IsExponent s
 no_exponent s is cs us e h = omega (arith, is, ap exponent_length e, exponent_read cs us h, exponent_some cs us h)
 
 none_by : (s : List ℕ) (n : ℕ) → exponent_length s ≡ n → BeginsWithNone IsExponent s → n ≡ 0
 none_by s zero is h = refl
 none_by s (suc n) is h = let b = exponent_there s (omega (arith, is)) in absurd (h b.front b.rest b.is b.holds)
 
-pub exponent_none : (s : List ℕ) → BeginsWithNone IsExponent s → exponent_length s ≡ 0
+exponent_none : (s : List ℕ) → BeginsWithNone IsExponent s → exponent_length s ≡ 0
 exponent_none s h = none_by s (exponent_length s) refl h
 
 -- fractions

@@ -31,7 +31,7 @@ pub taken : (v : ℕ) (cs us : List ℕ) → IsCharacter v cs → character_leng
 taken v [] us is = let h : None ≡ point v 0 = decodes v [] us is in absurd (cc)
 taken v (c ∷ cs) us is = same_size v (length (c ∷ cs)) (character_length (c ∷ cs ++ us)) c (cs ++ us) (decodes v (c ∷ cs) us is)
 
-pub character_some : (v : ℕ) (cs : List ℕ) → IsCharacter v cs → 0 < length cs
+character_some : (v : ℕ) (cs : List ℕ) → IsCharacter v cs → 0 < length cs
 character_some v [] is = let h : None ≡ point v 0 = decodes v [] [] is in absurd (cc)
 character_some v (c ∷ cs) is = omega arith
 
@@ -39,7 +39,7 @@ character_some v (c ∷ cs) is = omega arith
 stay : (c : ℕ) (p : Place) → is_continuation c ≡ true → moved p c ≡ p
 stay c p is = grind (arith, nat_tests)
 
-stays : (cs : List ℕ) (p : Place) → AreAll is_continuation cs → place_after p cs ≡ p
+pub stays : (cs : List ℕ) (p : Place) → AreAll is_continuation cs → place_after p cs ≡ p
 stays [] p all = refl
 stays (c ∷ cs) p all = ap (λ q. place_after q cs) (stay c p all.0) ∙ stays cs p all.1
 

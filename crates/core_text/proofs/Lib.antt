@@ -8,3 +8,5 @@ pub mod Quoting
 pub mod Fractions
 pub mod IllFormed
 pub mod Scalars
+pub mod Fewer
+pub mod Columns

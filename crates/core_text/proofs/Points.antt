@@ -80,10 +80,6 @@ point_cut v cs xs us ws (escaped {cs = ds} is) e = escaped (escape_cut v ds xs u
 empty_not : (v n : ℕ) → None ≡ point v n → ⊥
 empty_not v n h = cc
 
-nothing_read : code_point_at [] ≡ None
-unfolding code_point_at
-nothing_read = refl
-
 some_by : (v : ℕ) (cs us : List ℕ) → IsCharacter v cs → 0 < length cs
 some_by v [] us is = absurd (empty_not v 0 (decodes v [] us is))
 some_by v (c ∷ cs) us is = omega arith

@@ -43,7 +43,7 @@ octal_scalar ds all few =
     let h : number_from 8 0 (take n (ds ++ [])) ≤ 511 = octal_small n (ds ++ []) few (count_some is_octal ds [] all) in
     subst (λ t. number_from 8 0 t ≤ 511) e h
 
-pub escape_scalar : (v : ℕ) (cs us : List ℕ) → IsEscape v cs us → IsScalar v
+escape_scalar : (v : ℕ) (cs us : List ℕ) → IsEscape v cs us → IsScalar v
 escape_scalar v cs us (simple {c = c} {v = w} is) = scalar_low w (omega (arith, simple_small c w is))
 escape_scalar v cs us (octal ds vs all some few ends) = scalar_low (number_from 8 0 ds) (omega (arith, octal_scalar ds all few))
 escape_scalar v cs us (control {c = c} is) = scalar_low (c - 64) (omega (arith, control_small c is))

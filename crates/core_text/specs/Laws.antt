@@ -1,5 +1,5 @@
 -- What is read at the front of a text is what is spelled there, and what is spelled there is read: each law says both.
-use Rattle.std.specs.Prelude.{◌≡◌, ℕ, ◌-◌, ◌<◌, List, ◌++◌, length, take, Some, None}
+use Rattle.std.specs.Prelude.{◌≡◌, ℕ, ◌+◌, ◌-◌, ◌<◌, ◌==◌, if◌then◌else◌, List, ◌++◌, length, take, Some, None}
 use Rattle.std.specs.Char.{IsScalar}
 use Rattle.std.specs.Str.{IsUtf8}
 use Rattle.hipe_terms.specs.declared.place.Place.{Place}
@@ -12,7 +12,8 @@ use Rattle.core_text.specs.Quotes.{quoted_at}
 use Rattle.core_text.specs.Fractions.{fraction_length}
 use Rattle.core_text.specs.Utf8.{ill_formed}
 use Rattle.core_text.specs.Fronts.{BeginsWith, BeginsWithNone}
-use Rattle.core_text.specs.Characters.{IsEscape, IsCodePoint, IsQuoted, IsIllFormed}
+use Rattle.core_text.specs.Places.{place_after}
+use Rattle.core_text.specs.Characters.{IsCharacter, IsEscape, IsCodePoint, IsQuoted, IsIllFormed}
 use Rattle.core_text.specs.Numbers.{IsFraction}
 
 pub record EscapesAreRead : Type 0 where
@@ -46,3 +47,11 @@ pub record Utf8IsRead : Type 0 where
   pub spelled : (s : List ℕ) → IsUtf8 s → ill_formed s ≡ None
   pub first_read : (s : List ℕ) (at : Place) → ill_formed s ≡ Some at → IsIllFormed s at
   pub first_spelled : (s : List ℕ) (at : Place) → IsIllFormed s at → ill_formed s ≡ Some at
+
+-- the place behind a code point: a line feed ends a line, and each other code point is one column
+abbrev pub behind_point : Place → ℕ → Place
+behind_point p v = if v == 10 then record { line = p.line + 1; col = 1 } else record { line = p.line; col = p.col + 1 }
+
+-- places go by code points
+abbrev pub PlacesGoByCodePoints : Type 0
+PlacesGoByCodePoints = (p : Place) (v : ℕ) (cs : List ℕ) → IsCharacter v cs → place_after p cs ≡ behind_point p v

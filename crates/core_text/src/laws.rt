@@ -1,6 +1,6 @@
 // What is read at the front of a text is what is spelled there, and what is spelled there is read.
 
-ghost use Rattle.core_text.specs.Laws.{EscapesAreRead, CodePointsAreRead, QuotesAreRead, FractionsAreRead, Utf8IsRead};
+ghost use Rattle.core_text.specs.Laws.{EscapesAreRead, CodePointsAreRead, QuotesAreRead, FractionsAreRead, Utf8IsRead, PlacesGoByCodePoints};
 
 /// An escape is read exactly where one is spelled, whole and as its code point.
 pub fn escapes_are_read()
@@ -26,4 +26,9 @@ pub fn fractions_are_read()
 /// A text has no first byte that isn't UTF-8 exactly where it is UTF-8, and else has that one.
 pub fn utf8_is_read()
     ensures { Utf8IsRead }
+{}
+
+/// A line feed ends a line, and each other code point is one column, however many bytes it has.
+pub fn places_go_by_code_points()
+    ensures { PlacesGoByCodePoints }
 {}

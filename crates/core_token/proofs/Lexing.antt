@@ -48,9 +48,6 @@ unfolding lexeme_at
 character_read v cs us is = ap character_by (point_read v cs us is) ∙ size Character (length cs + 1) (length (36 ∷ cs)) (omega arith)
 
 -- variables
-apart : (c n : ℕ) → (c ≡ n → ⊥) → nat_eq c n ≡ false
-apart c n h = grind (arith, nat_tests)
-
 name_39 : (c : ℕ) → (is_upper c || nat_eq c 95) ≡ true → nat_eq c 39 ≡ false
 name_39 c is = grind (arith, nat_tests)
 

@@ -5,3 +5,4 @@ pub mod Sizes
 pub mod Spelled
 pub mod Steps
 pub mod Valued
+pub mod Longest

@@ -1,5 +1,5 @@
 -- Each token of a text stands in it and has its value.
-use Rattle.std.proofs.Common.{◌≡◌, ℕ, zero, suc, ◌+◌, ◌-◌, ◌≤◌, Bool, true, false, cond, nat_eq, ℤ, List, [], ◌∷◌, ◌++◌, length, take, drop, Some, None, refl, ap, sym, ◌∙◌, subst, length-append, arith}
+use Rattle.std.proofs.Common.{◌≡◌, ℕ, zero, suc, ◌+◌, ◌-◌, ◌≤◌, Bool, true, false, cond, nat_eq, ℤ, List, [], ◌∷◌, ◌++◌, length, take, drop, Some, None, refl, ap, sym, ◌∙◌, subst, length-append, arith, Result, Ok, Err, IfOk}
 use Rattle.std.specs.Prelude.{All}
 use Rattle.std.specs.List.{AllByRecursion}
 use Rattle.std.specs.Str.{all_scalars}
@@ -22,9 +22,12 @@ use Rattle.core_token.specs.declared.token.Token.{Token}
 use Rattle.core_token.specs.Lexemes.{greatest_integer, farthest_below}
 use Rattle.core_token.specs.Spelling.{IsAtom, quoted, Spells, atom, text, character, variable, integer, float, word, sign, dash_sign}
 use Rattle.core_token.specs.Values.{decimal, positive, negative, integer_of, value_of, character_of, code_points_of, HasValue}
+use Rattle.core_token.specs.declared.token.TokenFault.{TokenFault}
+use Rattle.core_token.specs.Reading.{read, Answers}
 use Rattle.core_token.specs.Text.{HasTokens, nothing, blank, token, AreTokensOf, StandsIn, AreInOrder}
 use Rattle.core_token.proofs.Spelled.{most, in_range}
 use Rattle.core_token.proofs.Sizes.{token_some}
+use Rattle.core_token.proofs.Cuts.{tokens_read}
 
 -- integers
 decimal_there : (b : Bool) (ds : List ℕ) → is_in_range (signed b (number_from 10 0 ds)) ≡ true → decimal (most b) ds ≡ Some (number_from 10 0 ds)
@@ -132,3 +135,12 @@ order_from s i k p ts (token {sort = sort} {cs = cs} {us = us} {ts = vs} is rest
 
 pub in_order : (s : List ℕ) (ts : List Token) → AreTokensOf s ts → AreInOrder 0 ts
 in_order s ts h = order_from s 0 0 start ts h.1 (omega arith)
+
+-- of what a call answers
+pub stand_answered : (s : List ℕ) (r : Result (List Token) TokenFault) → Answers (read s) r → IfOk r (λ ts. All (StandsIn s) ts)
+stand_answered s (Ok ts) h = stand s ts (tokens_read s ts h)
+stand_answered s (Err f) h = tt
+
+pub order_answered : (s : List ℕ) (r : Result (List Token) TokenFault) → Answers (read s) r → IfOk r (λ ts. AreInOrder 0 ts)
+order_answered s (Ok ts) h = in_order s ts (tokens_read s ts h)
+order_answered s (Err f) h = tt

@@ -1,12 +1,13 @@
 -- What holds of the tokens of every text.
-use Rattle.std.specs.Prelude.{◌≡◌, ◌⊎◌, ℕ, ℤ, true, List, ◌∷◌, All, Some, Ok, Err}
+use Rattle.std.specs.Prelude.{◌≡◌, ◌⊎◌, ℕ, ◌≤◌, ℤ, true, List, [], ◌∷◌, ◌++◌, length, All, Some, Ok, Err}
 use Rattle.hipe_terms.specs.declared.place.Place.{Place}
 use Rattle.hipe_terms.specs.Range.{is_in_range}
 use Rattle.core_text.specs.Characters.{IsCodePoint, IsQuoted}
 use Rattle.core_text.specs.Numbers.{IsInteger}
+use Rattle.core_token.specs.declared.token.Sort.{Sort}
 use Rattle.core_token.specs.declared.token.Token.{Token}
 use Rattle.core_token.specs.declared.token.TokenKind.{TokenKind}
-use Rattle.core_token.specs.Spelling.{IsAtom}
+use Rattle.core_token.specs.Spelling.{IsAtom, Spells}
 use Rattle.core_token.specs.Values.{integer_of, character_of, code_points_of}
 use Rattle.core_token.specs.Reading.{read}
 use Rattle.core_token.specs.Text.{AreTokensOf, IsRefused, StandsIn, AreInOrder}
@@ -29,6 +30,10 @@ pub record TokensAreRead : Type 0 where
 pub record TokensStand : Type 0 where
   pub stand : (s : List ℕ) (ts : List Token) → AreTokensOf s ts → All (StandsIn s) ts
   pub in_order : (s : List ℕ) (ts : List Token) → AreTokensOf s ts → AreInOrder 0 ts
+
+-- a token is the longest that begins where it stands: no longer bytes there are a token by themselves
+abbrev pub TokensAreLongest : Type 0
+TokensAreLongest = (sort other : Sort) (cs us ds ws : List ℕ) → Spells sort cs us → cs ++ us ≡ ds ++ ws → Spells other ds [] → length ds ≤ length cs
 
 -- the values that are read of a token's bytes are those that are spelled there
 pub record ValuesAreRead : Type 0 where

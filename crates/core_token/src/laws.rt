@@ -1,6 +1,6 @@
 // What holds of the tokens of every text.
 
-ghost use Rattle.core_token.specs.Laws.{TokensAreUnique, TokensAreRead, TokensStand, ValuesAreRead};
+ghost use Rattle.core_token.specs.Laws.{TokensAreUnique, TokensAreRead, TokensStand, TokensAreLongest, ValuesAreRead};
 
 /// A text has exactly one list of tokens or exactly one first fault.
 pub fn tokens_are_unique()
@@ -16,6 +16,11 @@ pub fn tokens_are_read()
 /// is in the range, a character its code point, an atom and a text their code points, those of an atom at most 255.
 pub fn tokens_stand()
     ensures { TokensStand }
+{}
+
+/// A token is the longest that begins where it stands.
+pub fn tokens_are_longest()
+    ensures { TokensAreLongest }
 {}
 
 /// The values that `integer_of`, `character_of` and `code_points_of` read of a token's bytes are those that are spelled there.

@@ -22,7 +22,9 @@ mod scan;
 mod token;
 mod value;
 
-pub use laws::{tokens_are_read, tokens_are_unique, tokens_stand, values_are_read};
+pub use laws::{
+    tokens_are_longest, tokens_are_read, tokens_are_unique, tokens_stand, values_are_read,
+};
 pub use scan::tokens;
 pub use token::{Sort, Token, TokenFault, TokenKind, Tokens};
 pub use value::{character_of, code_points_of, integer_of};
