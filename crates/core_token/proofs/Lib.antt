@@ -1,6 +1,8 @@
-pub mod Characters
+pub mod Blanks
 pub mod Cuts
-pub mod Numbers
+pub mod Lexing
+pub mod Sizes
 pub mod Spelled
 pub mod Steps
-pub mod Walks
+pub mod Valued
+pub mod Longest

@@ -1,134 +1,104 @@
--- The token at the front of a text is spelled as its sort is.
-use Rattle.std.proofs.Common.{◌≡◌, ℕ, zero, suc, ◌+◌, ◌<◌, ◌≤◌, Bool, true, false, cond, ◌||◌, ◌&&◌, nat_eq, nat_lt, nat_le, List, [], ◌∷◌, ◌++◌, length, take, drop, Option, Some, None, Ok, Err, refl, ap, sym, ◌∙◌, subst, subst₂, append_assoc, one-add, arith}
+-- The token at the front of a text is spelled as its sort is, and a wide integer and a long atom are there where they are refused.
+use Rattle.std.proofs.Common.{◌≡◌, ℕ, zero, suc, ◌+◌, ◌<◌, ◌≤◌, Bool, true, false, cond, ◌||◌, ◌&&◌, nat_eq, nat_lt, nat_le, List, [], ◌∷◌, ◌++◌, length, take, drop, Option, Some, None, Ok, Err, refl, ap, sym, ◌∙◌, subst, append_assoc, length-append, arith}
 use Rattle.std.specs.List.{prefix_len}
 use Rattle.std.proofs.lemmas.Bool.Decides.{nat_tests}
-use Rattle.std.proofs.lemmas.List.{drop-drop}
-use Rattle.core_token.specs.declared.token.Sort.{Sort}
-use Rattle.core_token.specs.declared.token.Sort.TheVariants.{Atom, Variable, Integer, Float, Character, Text, Word, Sign}
-use Rattle.core_token.specs.declared.token.TokenKind.{TokenKind}
+use Rattle.std.proofs.lemmas.Int.{ints}
+use Rattle.std.proofs.lemmas.List.{take_at, drop_at}
+use Rattle.hipe_terms.specs.declared.limits.TheConstants.{ATOM_LIMIT}
+use Rattle.hipe_terms.specs.Range.{is_in_range}
+use Rattle.core_text.specs.declared.quoted.Quoted.{Quoted}
+use Rattle.core_text.specs.declared.code_point.CodePoint.{CodePoint}
+use Rattle.core_text.specs.Bytes.{is_digit, is_upper, is_lower, is_word_byte, begins, number_from}
+use Rattle.core_text.specs.CodePoints.{code_point_at}
+use Rattle.core_text.specs.Quotes.{quoted_at}
+use Rattle.core_text.specs.Fractions.{is_sign_byte, fraction_length}
+use Rattle.core_text.specs.Fronts.{BeginsWith, ArePassing, AreDigits}
+use Rattle.core_text.specs.Characters.{IsCodePoint, IsQuoted}
+use Rattle.core_text.specs.Numbers.{IsSign, none, plus, minus, signed, IsInteger, integer as spelled_integer, float as spelled_float}
+use Rattle.core_text.proofs.Fronts.{passing, behind_byte}
+use Rattle.core_text.proofs.Points.{point_there}
+use Rattle.core_text.proofs.Quoting.{quoted_has}
+use Rattle.core_text.proofs.Fractions.{fraction_there, no_fraction}
+use Rattle.core_token.specs.declared.token.Sort.TheVariants.{Atom, Variable, Integer, Float, Character, Text, Sign}
 use Rattle.core_token.specs.declared.token.TokenKind.TheVariants.{Token, WideInteger, LongAtom}
-use Rattle.core_token.specs.declared.lexeme.Lexeme.{Lexeme}
-use Rattle.core_token.specs.declared.quoted.Quoted.{Quoted}
-use Rattle.core_token.specs.declared.escape.Escape.{Escape}
-use Rattle.core_token.specs.Bytes.{is_digit, is_upper, is_lower, is_word_byte, is_continuation, begins, number_from}
-use Rattle.core_token.specs.Escapes.{escape_at}
-use Rattle.core_token.specs.Lexemes.{Found, lexeme, quoted_at, most_code_points, atom_of, text_of, escaped_character as escaped_found, character_at, is_sign_byte, fraction_length, number_at, greatest_integer, farthest_below, is_word, is_short_sign, word_at, sign_at, unquoted_at, lexeme_at}
-use Rattle.core_token.specs.Spelling.{AreAll, IsSign, none, plus, minus, AreDigits, Spells, atom, text, character, escaped_character, variable, integer, float, word, sign, dash_sign}
+use Rattle.core_token.specs.Lexemes.{Found, lexeme, atom_of, text_of, character_by, number_at, greatest_integer, farthest_below, is_word, is_short_sign, word_at, sign_at, unquoted_at, lexeme_at}
+use Rattle.core_token.specs.Spelling.{quoted, Spells, atom, text, character, variable, integer, float, word, sign, dash_sign, IsFault, wide_integer, long_atom}
 
-abbrev pub Spelled : List ℕ → Found → Type 0
-Spelled s f = (l : Lexeme) → f ≡ Ok l → Spells l.sort (take l.length s) (drop l.length s)
+abbrev pub Told : List ℕ → Found → Type 0
+Told s (Ok l) = BeginsWith (Spells l.sort) s l.length
+Told s (Err WideInteger) = IsFault s WideInteger
+Told s (Err LongAtom) = IsFault s LongAtom
+Told s (Err Token) = Unit {0}
 
-split : (s : List ℕ) (b : Bool) (x y : Found) → (b ≡ true → Spelled s x) → (b ≡ false → Spelled s y) → Spelled s (cond b x y)
+split : (s : List ℕ) (b : Bool) (x y : Found) → (b ≡ true → Told s x) → (b ≡ false → Told s y) → Told s (cond b x y)
 split s true x y f g = f refl
 split s false x y f g = g refl
-
-ok_same : (k l : Lexeme) (f : Found) → f ≡ Ok k → f ≡ Ok l → k ≡ l
-ok_same k l f g h = cc
-
-made : (s : List ℕ) (sort : Sort) (n : ℕ) → Spells sort (take n s) (drop n s) → Spelled s (lexeme sort n)
-made s sort n h l is = subst (λ l. Spells l.sort (take l.length s) (drop l.length s)) (ok_same (record { sort = sort; length = n }) l (lexeme sort n) refl is) h
-
-not_made : (s : List ℕ) (kind : TokenKind) → Spelled s (Err kind)
-not_made s kind l h = absurd (cc)
-
--- what passes a test at the front, and what comes behind it
-front_step : (test : ℕ → Bool) (c : ℕ) (s : List ℕ) (b : Bool) → test c ≡ b → AreAll test (take (prefix_len test s) s) → AreAll test (take (cond b (1 + prefix_len test s) 0) (c ∷ s))
-front_step test c s true is rest = subst (λ n. AreAll test (take n (c ∷ s))) (sym (one-add (prefix_len test s))) (is, rest)
-front_step test c s false is rest = tt
-
-front_all : (test : ℕ → Bool) (s : List ℕ) → AreAll test (take (prefix_len test s) s)
-front_all test [] = tt
-front_all test (c ∷ s) = front_step test c s (test c) refl (front_all test s)
-
-rest_step : (test : ℕ → Bool) (c : ℕ) (s : List ℕ) (b : Bool) → test c ≡ b → begins test (drop (prefix_len test s) s) ≡ false → begins test (drop (cond b (1 + prefix_len test s) 0) (c ∷ s)) ≡ false
-rest_step test c s true is rest = ap (λ n. begins test (drop n (c ∷ s))) (one-add (prefix_len test s)) ∙ rest
-rest_step test c s false is rest = is
-
-rest_without : (test : ℕ → Bool) (s : List ℕ) → begins test (drop (prefix_len test s) s) ≡ false
-rest_without test [] = refl
-rest_without test (c ∷ s) = rest_step test c s (test c) refl (rest_without test s)
-
--- one byte, and n more
-more : (sort : Sort) (c : ℕ) (n : ℕ) (s : List ℕ) → Spells sort (c ∷ take n s) (drop n s) → Spells sort (take (n + 1) (c ∷ s)) (drop (n + 1) (c ∷ s))
-more sort c n s h = let e : suc n ≡ n + 1 = omega arith in subst (λ k. Spells sort (take k (c ∷ s)) (drop k (c ∷ s))) e h
-
-more_two : (sort : Sort) (c d : ℕ) (n : ℕ) (s : List ℕ) → Spells sort (c ∷ d ∷ take n s) (drop n s) → Spells sort (take (n + 2) (c ∷ d ∷ s)) (drop (n + 2) (c ∷ d ∷ s))
-more_two sort c d n s h = let e : suc (suc n) ≡ n + 2 = omega arith in subst (λ k. Spells sort (take k (c ∷ d ∷ s)) (drop k (c ∷ d ∷ s))) e h
-
--- quotes
-atom_spelled : (s : List ℕ) (b : Option Quoted) → quoted_at 39 s ≡ b → Spelled (39 ∷ s) (atom_of b)
-atom_spelled s None is = not_made _ Token
-atom_spelled s (Some b) is =
-    split _ (nat_lt most_code_points b.code_points) _ _ (λ long. not_made _ LongAtom) (λ short. made _ Atom (b.length + 1) (more Atom 39 b.length s (atom s b is (grind (arith, nat_tests)))))
-
-text_spelled : (s : List ℕ) (b : Option Quoted) → quoted_at 34 s ≡ b → Spelled (34 ∷ s) (text_of b)
-text_spelled s None is = not_made _ Token
-text_spelled s (Some b) is = made _ Text (b.length + 1) (more Text 34 b.length s (text s b is))
-
--- characters
-escape_spelled : (s : List ℕ) (e : Option Escape) → escape_at s ≡ e → Spelled (36 ∷ 92 ∷ s) (escaped_found e)
-escape_spelled s None is = not_made _ Token
-escape_spelled s (Some e) is = made _ Character (e.length + 2) (more_two Character 36 92 e.length s (escaped_character s e is))
 
 equal : (a b : ℕ) → nat_eq a b ≡ true → b ≡ a
 equal a b h = grind (arith, nat_tests)
 
-differs : (a b : ℕ) → nat_eq a b ≡ false → a ≡ b → ⊥
-differs a b h e = grind (arith, nat_tests)
+more_than : (a b : ℕ) → nat_lt a b ≡ true → a < b
+more_than a b h = grind (arith, nat_tests)
 
-character_spelled : (s : List ℕ) → Spelled (36 ∷ s) (character_at s)
-character_spelled [] = not_made _ Token
-character_spelled (c ∷ s) =
-    split _ (nat_eq c 92) _ _ (λ is. subst (λ d. Spelled (36 ∷ d ∷ s) (escaped_found (escape_at s))) (equal c 92 is) (escape_spelled s (escape_at s) refl))
-    (λ is. made _ Character (prefix_len is_continuation s + 2)
-    (more_two Character 36 c (prefix_len is_continuation s) s (character (differs c 92 is) (front_all is_continuation s) (rest_without is_continuation s))))
-
--- words, variables and signs
-word_spelled : (c : ℕ) (s : List ℕ) → Spelled (c ∷ s) (word_at (c ∷ s))
-word_spelled c s =
-    let n = prefix_len is_word_byte s in
-    let e : n + 1 ≡ suc n = omega arith in
-    split _ (is_word (take (n + 1) (c ∷ s))) _ _ (λ is. made _ Word (n + 1) (word is (ap (λ k. begins is_word_byte (drop k (c ∷ s))) e ∙ rest_without is_word_byte s))) (λ no. not_made _ Token)
-
-variable_spelled : (c : ℕ) (s : List ℕ) → (is_upper c || nat_eq c 95) ≡ true → Spelled (c ∷ s) (lexeme Variable (prefix_len is_word_byte s + 1))
-variable_spelled c s is =
-    made _ Variable (prefix_len is_word_byte s + 1) (more Variable c (prefix_len is_word_byte s) s (variable is (front_all is_word_byte s) (rest_without is_word_byte s)))
-
-dash_spelled : (s : List ℕ) → Spelled (45 ∷ s) (cond (begins (λ d. nat_eq d 62 || nat_eq d 124) s) (lexeme Sign 2) (Err Token))
-dash_spelled [] = not_made _ Token
-dash_spelled (d ∷ s) = split _ (nat_eq d 62 || nat_eq d 124) _ _ (λ is. made _ Sign 2 (dash_sign is)) (λ no. not_made _ Token)
-
-sign_spelled : (c : ℕ) (s : List ℕ) → Spelled (c ∷ s) (sign_at c s)
-sign_spelled c s =
-    split _ (is_short_sign c) _ _ (λ is. made _ Sign 1 (sign is))
-    (λ no. split _ (nat_eq c 45) _ _ (λ is. subst (λ d. Spelled (d ∷ s) (cond (begins (λ d. nat_eq d 62 || nat_eq d 124) s) (lexeme Sign 2) (Err Token))) (equal c 45 is) (dash_spelled s)) (λ other. not_made _ Token))
-
--- numbers
-take_behind : (ss s : List ℕ) (n : ℕ) → take (length ss + n) (ss ++ s) ≡ ss ++ take n s
-take_behind [] s n = let e : 0 + n ≡ n = omega arith in ap (λ k. take k s) e
-take_behind (c ∷ ss) s n = let e : suc (length ss) + n ≡ suc (length ss + n) = omega arith in ap (λ k. take k (c ∷ ss ++ s)) e ∙ ap (λ t. c ∷ t) (take_behind ss s n)
-
-drop_behind : (ss s : List ℕ) (n : ℕ) → drop (length ss + n) (ss ++ s) ≡ drop n s
-drop_behind [] s n = let e : 0 + n ≡ n = omega arith in ap (λ k. drop k s) e
-drop_behind (c ∷ ss) s n = let e : suc (length ss) + n ≡ suc (length ss + n) = omega arith in ap (λ k. drop k (c ∷ ss ++ s)) e ∙ drop_behind ss s n
-
-abbrev nil : List ℕ
-nil = []
-
-take_nothing : (f : ℕ) → take f nil ≡ nil
-take_nothing zero = refl
-take_nothing (suc f) = refl
-
-take_more : (n f : ℕ) (s : List ℕ) → take (n + f) s ≡ take n s ++ take f (drop n s)
-take_more zero f s = let e : 0 + f ≡ f = omega arith in ap (λ k. take k s) e
-take_more (suc n) f [] = let e : suc n + f ≡ suc (n + f) = omega arith in ap (λ k. take k nil) e ∙ sym (take_nothing f)
-take_more (suc n) f (c ∷ s) = let e : suc n + f ≡ suc (n + f) = omega arith in ap (λ k. take k (c ∷ s)) e ∙ ap (λ t. c ∷ t) (take_more n f s)
-
-at_most : (a b : ℕ) → nat_le a b ≡ true → a ≤ b
-at_most a b h = grind (arith, nat_tests)
+no_more : (a b : ℕ) → nat_lt a b ≡ false → b ≤ a
+no_more a b h = grind (arith, nat_tests)
 
 positive : (f : ℕ) → nat_eq f 0 ≡ false → 0 < f
 positive f h = grind (arith, nat_tests)
+
+-- quotes
+atom_told : (s : List ℕ) (b : Option Quoted) → quoted_at 39 s ≡ b → Told (39 ∷ s) (atom_of b)
+atom_told s None is = tt
+atom_told s (Some b) is =
+    let h = quoted_has 39 s b is in
+    split _ (nat_lt ATOM_LIMIT b.code_points) _ _
+    (λ many. subst (λ t. IsFault (39 ∷ t) LongAtom) (sym h.there.is) (long_atom (quoted h.there.holds) (omega (arith, more_than ATOM_LIMIT b.code_points many, h.count))))
+    (λ few. let le : length h.values ≤ ATOM_LIMIT = omega (arith, no_more ATOM_LIMIT b.code_points few, h.count) in
+    behind_byte (IsQuoted 39 h.values) (Spells Atom) 39 b.length s (λ cs us q. atom (quoted q) le) h.there)
+
+text_told : (s : List ℕ) (b : Option Quoted) → quoted_at 34 s ≡ b → Told (34 ∷ s) (text_of b)
+text_told s None is = tt
+text_told s (Some b) is = let h = quoted_has 34 s b is in behind_byte (IsQuoted 34 h.values) (Spells Text) 34 b.length s (λ cs us q. text q) h.there
+
+-- characters
+character_told : (s : List ℕ) (p : Option CodePoint) → code_point_at s ≡ p → Told (36 ∷ s) (character_by p)
+character_told s None is = tt
+character_told s (Some p) is = behind_byte (IsCodePoint p.value) (Spells Character) 36 p.length s (λ cs us h. character h) (point_there s p is)
+
+-- words, variables and signs
+word_told : (c : ℕ) (s : List ℕ) → Told (c ∷ s) (word_at (c ∷ s))
+word_told c s =
+    let n = prefix_len is_word_byte s in
+    let f = passing is_word_byte s in
+    let e : suc n ≡ n + 1 = omega arith in
+    let front : take (n + 1) (c ∷ s) ≡ c ∷ f.front = ap (λ k. take k (c ∷ s)) (sym e) ∙ ap (λ t. c ∷ t) (ap (take n) f.is ∙ take_at f.front f.rest n f.size) in
+    split _ (is_word (take (n + 1) (c ∷ s))) _ _
+    (λ is. record { front = c ∷ f.front; rest = f.rest; is = ap (λ t. c ∷ t) f.is; size = omega (arith, f.size); holds = word (ap is_word (sym front) ∙ is) f.holds.1 }) (λ _. tt)
+
+variable_told : (c : ℕ) (s : List ℕ) → (is_upper c || nat_eq c 95) ≡ true → Told (c ∷ s) (lexeme Variable (prefix_len is_word_byte s + 1))
+variable_told c s is = behind_byte (ArePassing is_word_byte) (Spells Variable) c (prefix_len is_word_byte s) s (λ cs us h. variable is h) (passing is_word_byte s)
+
+dash_told : (s : List ℕ) → Told (45 ∷ s) (cond (begins (λ d. nat_eq d 62 || nat_eq d 124) s) (lexeme Sign 2) (Err Token))
+dash_told [] = tt
+dash_told (d ∷ s) = split _ (nat_eq d 62 || nat_eq d 124) _ _ (λ is. record { front = 45 ∷ d ∷ []; rest = s; is = refl; size = refl; holds = dash_sign is }) (λ _. tt)
+
+sign_told : (c : ℕ) (s : List ℕ) → Told (c ∷ s) (sign_at c s)
+sign_told c s =
+    split _ (is_short_sign c) _ _ (λ is. record { front = c ∷ []; rest = s; is = refl; size = refl; holds = sign is })
+    (λ _. split _ (nat_eq c 45) _ _ (λ is. subst (λ d. Told (d ∷ s) (cond (begins (λ d. nat_eq d 62 || nat_eq d 124) s) (lexeme Sign 2) (Err Token))) (equal c 45 is) (dash_told s)) (λ _. tt))
+
+-- numbers
+abbrev pub most : Bool → ℕ
+most true = farthest_below
+most false = greatest_integer
+
+below_zero : (n : ℕ) → is_in_range (signed true (suc n)) ≡ nat_le (suc n) (most true)
+below_zero n = grind (arith, ints, nat_tests)
+
+pub in_range : (b : Bool) (n : ℕ) → is_in_range (signed b n) ≡ nat_le n (most b)
+in_range true zero = refl
+in_range true (suc n) = below_zero n
+in_range false n = refl
 
 plus_is : (c : ℕ) → nat_eq c 45 ≡ false → is_sign_byte c ≡ true → 43 ≡ c
 plus_is c other is = grind (arith, nat_tests)
@@ -145,57 +115,72 @@ second_of_both : (a b : Bool) → (a && b) ≡ true → b ≡ true
 second_of_both true b h = h
 second_of_both false b h = absurd (cc)
 
-digits_there : (c : ℕ) (t : List ℕ) → is_digit c ≡ true → AreDigits (take (prefix_len is_digit t + 1) (c ∷ t)) (drop (prefix_len is_digit t + 1) (c ∷ t))
-digits_there c t is =
-    let n = prefix_len is_digit t in
-    let e : suc n ≡ n + 1 = omega arith in
-    subst (λ k. AreDigits (take k (c ∷ t)) (drop k (c ∷ t))) e (omega arith, (is, front_all is_digit t), rest_without is_digit t)
+-- digits at the front, a fraction of f bytes or none behind them, and a sign before them
+number_cut : (ss : List ℕ) (b : Bool) (s : List ℕ) (n : ℕ) → IsSign ss b → (d : BeginsWith AreDigits s n)
+    → Told (ss ++ s)
+    (cond (nat_eq (fraction_length d.rest) 0) (cond (nat_le (number_from 10 0 d.front) (most b)) (lexeme Integer (length ss + n)) (Err WideInteger))
+    (lexeme Float (length ss + n + fraction_length d.rest)))
+number_cut ss b s n is d =
+    let m = number_from 10 0 d.front in
+    let cut : ss ++ s ≡ ss ++ d.front ++ d.rest = ap (λ t. ss ++ t) d.is ∙ sym (append_assoc ss d.front d.rest) in
+    split _ (nat_eq (fraction_length d.rest) 0) _ _
+    (λ whole.
+    let i : IsInteger (signed b m) (ss ++ d.front) d.rest = spelled_integer d.front d.rest is d.holds (no_fraction d.rest (sym (equal _ 0 whole))) in
+    split _ (nat_le m (most b)) _ _
+    (λ few. record { front = ss ++ d.front; rest = d.rest; is = cut; size = omega (arith, length-append ss d.front, d.size); holds = integer i (in_range b m ∙ few) })
+    (λ wide. subst (λ t. IsFault t WideInteger) (sym cut) (wide_integer i (in_range b m ∙ wide))))
+    (λ part.
+    let f = fraction_there d.rest (positive _ part) in
+    record {
+      front = ss ++ d.front ++ f.front;
+      rest = f.rest;
+      is = cut ∙ ap (λ t. ss ++ d.front ++ t) f.is ∙ sym (append_assoc (ss ++ d.front) f.front f.rest);
+      size = omega (arith, length-append (ss ++ d.front) f.front, length-append ss d.front, d.size, f.size);
+      holds = float (spelled_float d.front f.front f.rest is (subst (AreDigits d.front) f.is d.holds) f.holds);
+    })
 
-integer_spelled : (ss : List ℕ) (most : ℕ) (s : List ℕ) (n : ℕ) → IsSign ss most → AreDigits (take n s) (drop n s) → fraction_length (drop n s) ≡ 0 → number_from 10 0 (take n s) ≤ most
-    → Spelled (ss ++ s) (lexeme Integer (length ss + n))
-integer_spelled ss most s n is digits whole few =
-    made _ Integer (length ss + n) (subst₂ (Spells Integer) (sym (take_behind ss s n)) (sym (drop_behind ss s n)) (integer (take n s) (drop n s) is digits whole few))
-
-float_spelled : (ss : List ℕ) (most : ℕ) (s : List ℕ) (n : ℕ) → IsSign ss most → AreDigits (take n s) (drop n s) → 0 < fraction_length (drop n s)
-    → Spelled (ss ++ s) (lexeme Float (length ss + n + fraction_length (drop n s)))
-float_spelled ss most s n is digits some =
-    let f = fraction_length (drop n s) in
-    let e : length ss + n + f ≡ length ss + (n + f) = omega arith in
-    let front : take (length ss + n + f) (ss ++ s) ≡ ss ++ take n s ++ take f (drop n s) = ap (λ k. take k (ss ++ s)) e ∙ take_behind ss s (n + f) ∙ ap (λ t. ss ++ t) (take_more n f s) ∙ sym (append_assoc ss (take n s) (take f (drop n s))) in
-    let rest : drop (length ss + n + f) (ss ++ s) ≡ drop f (drop n s) = ap (λ k. drop k (ss ++ s)) e ∙ drop_behind ss s (n + f) ∙ sym (drop-drop f n s) in
-    made _ Float (length ss + n + f) (subst₂ (Spells Float) (sym front) (sym rest) (float (take n s) (drop n s) is digits some))
-
-number_spelled : (ss : List ℕ) (most : ℕ) (c : ℕ) (t : List ℕ) → IsSign ss most → is_digit c ≡ true → Spelled (ss ++ c ∷ t) (number_at (length ss) most (c ∷ t))
+-- a number whose first digit is there
+number_told : (ss : List ℕ) (b : Bool) (c : ℕ) (t : List ℕ) → IsSign ss b → is_digit c ≡ true → Told (ss ++ c ∷ t) (number_at (length ss) (most b) (c ∷ t))
 unfolding number_at
-number_spelled ss most c t is first =
-    let n = prefix_len is_digit t + 1 in
-    let f = fraction_length (drop n (c ∷ t)) in
-    split _ (nat_eq f 0) _ _
-    (λ whole. split _ (nat_le (number_from 10 0 (take n (c ∷ t))) most) _ _
-    (λ few. integer_spelled ss most (c ∷ t) n is (digits_there c t first) (sym (equal f 0 whole)) (at_most _ most few)) (λ wide. not_made _ WideInteger))
-    (λ part. float_spelled ss most (c ∷ t) n is (digits_there c t first) (positive f part))
+number_told ss b c t is first =
+    let k = prefix_len is_digit t in
+    let s = c ∷ t in
+    let f = passing is_digit t in
+    let d : BeginsWith AreDigits s (k + 1) = record {
+      front = c ∷ f.front;
+      rest = f.rest;
+      is = ap (λ t. c ∷ t) f.is;
+      size = omega (arith, f.size);
+      holds = (omega arith, ((first, f.holds.0), f.holds.1));
+    } in
+    let front : d.front ≡ take (k + 1) s = sym (ap (take (k + 1)) d.is ∙ take_at d.front d.rest (k + 1) d.size) in
+    let rest : d.rest ≡ drop (k + 1) s = sym (ap (drop (k + 1)) d.is ∙ drop_at d.front d.rest (k + 1) d.size) in
+    let found : List ℕ → List ℕ → Found = λ ds us.
+    cond (nat_eq (fraction_length us) 0) (cond (nat_le (number_from 10 0 ds) (most b)) (lexeme Integer (length ss + (k + 1))) (Err WideInteger))
+    (lexeme Float (length ss + (k + 1) + fraction_length us)) in
+    subst (Told (ss ++ s)) (ap (λ ds. found ds d.rest) front ∙ ap (λ us. found (take (k + 1) s) us) rest) (number_cut ss b s (k + 1) is d)
 
 signed_by : (c d : ℕ) (t : List ℕ) (b : Bool) → nat_eq c 45 ≡ b → is_sign_byte c ≡ true → is_digit d ≡ true
-    → Spelled (c ∷ d ∷ t) (number_at 1 (cond b farthest_below greatest_integer) (d ∷ t))
-signed_by c d t true minus_is is first = subst (λ c. Spelled (c ∷ d ∷ t) (number_at 1 farthest_below (d ∷ t))) (equal c 45 minus_is) (number_spelled (45 ∷ []) farthest_below d t minus first)
-signed_by c d t false other is first = subst (λ c. Spelled (c ∷ d ∷ t) (number_at 1 greatest_integer (d ∷ t))) (plus_is c other is) (number_spelled (43 ∷ []) greatest_integer d t plus first)
+    → Told (c ∷ d ∷ t) (number_at 1 (cond b farthest_below greatest_integer) (d ∷ t))
+signed_by c d t true minus_is is first = subst (λ c. Told (c ∷ d ∷ t) (number_at 1 farthest_below (d ∷ t))) (equal c 45 minus_is) (number_told (45 ∷ []) true d t minus first)
+signed_by c d t false other is first = subst (λ c. Told (c ∷ d ∷ t) (number_at 1 greatest_integer (d ∷ t))) (plus_is c other is) (number_told (43 ∷ []) false d t plus first)
 
-signed_spelled : (c : ℕ) (s : List ℕ) → (is_sign_byte c && begins is_digit s) ≡ true → Spelled (c ∷ s) (number_at 1 (cond (nat_eq c 45) farthest_below greatest_integer) s)
-signed_spelled c [] both = absurd (no_end (is_sign_byte c) both)
-signed_spelled c (d ∷ t) both = signed_by c d t (nat_eq c 45) refl (first_of_both _ _ both) (second_of_both _ _ both)
+signed_told : (c : ℕ) (s : List ℕ) → (is_sign_byte c && begins is_digit s) ≡ true → Told (c ∷ s) (number_at 1 (cond (nat_eq c 45) farthest_below greatest_integer) s)
+signed_told c [] both = absurd (no_end (is_sign_byte c) both)
+signed_told c (d ∷ t) both = signed_by c d t (nat_eq c 45) refl (first_of_both _ _ both) (second_of_both _ _ both)
 
-unquoted_spelled : (c : ℕ) (s : List ℕ) → Spelled (c ∷ s) (unquoted_at (c ∷ s))
+unquoted_told : (c : ℕ) (s : List ℕ) → Told (c ∷ s) (unquoted_at (c ∷ s))
 unfolding unquoted_at
-unquoted_spelled c s =
-    split _ (is_digit c) _ _ (λ is. number_spelled [] greatest_integer c s none is)
-    (λ no. split _ (is_sign_byte c && begins is_digit s) _ _ (λ both. signed_spelled c s both)
-    (λ no. split _ (is_upper c || nat_eq c 95) _ _ (λ is. variable_spelled c s is)
-    (λ no. split _ (is_lower c) _ _ (λ is. word_spelled c s) (λ no. sign_spelled c s))))
+unquoted_told c s =
+    split _ (is_digit c) _ _ (λ is. number_told [] false c s none is)
+    (λ _. split _ (is_sign_byte c && begins is_digit s) _ _ (λ both. signed_told c s both)
+    (λ _. split _ (is_upper c || nat_eq c 95) _ _ (λ is. variable_told c s is)
+    (λ _. split _ (is_lower c) _ _ (λ is. word_told c s) (λ _. sign_told c s))))
 
-pub spelled : (s : List ℕ) → Spelled s (lexeme_at s)
+pub told : (s : List ℕ) → Told s (lexeme_at s)
 unfolding lexeme_at
-spelled [] = not_made _ Token
-spelled (c ∷ s) =
-    split _ (nat_eq c 39) _ _ (λ is. subst (λ d. Spelled (d ∷ s) (atom_of (quoted_at 39 s))) (equal c 39 is) (atom_spelled s (quoted_at 39 s) refl))
-    (λ no. split _ (nat_eq c 34) _ _ (λ is. subst (λ d. Spelled (d ∷ s) (text_of (quoted_at 34 s))) (equal c 34 is) (text_spelled s (quoted_at 34 s) refl))
-    (λ no. split _ (nat_eq c 36) _ _ (λ is. subst (λ d. Spelled (d ∷ s) (character_at s)) (equal c 36 is) (character_spelled s)) (λ no. unquoted_spelled c s)))
+told [] = tt
+told (c ∷ s) =
+    split _ (nat_eq c 39) _ _ (λ is. subst (λ d. Told (d ∷ s) (atom_of (quoted_at 39 s))) (equal c 39 is) (atom_told s (quoted_at 39 s) refl))
+    (λ _. split _ (nat_eq c 34) _ _ (λ is. subst (λ d. Told (d ∷ s) (text_of (quoted_at 34 s))) (equal c 34 is) (text_told s (quoted_at 34 s) refl))
+    (λ _. split _ (nat_eq c 36) _ _ (λ is. subst (λ d. Told (d ∷ s) (character_by (code_point_at s))) (equal c 36 is) (character_told s (code_point_at s) refl)) (λ _. unquoted_told c s)))

@@ -1,9 +1,6 @@
-pub mod Bytes
-pub mod Escapes
 pub mod Lexemes
-pub mod Places
 pub mod Reading
-pub mod Utf8
 pub mod Values
 pub mod Spelling
 pub mod Text
+pub mod Laws

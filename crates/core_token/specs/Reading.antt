@@ -8,10 +8,11 @@ use Rattle.core_token.specs.declared.token.TokenFault.{TokenFault}
 use Rattle.core_token.specs.declared.token.TokenFault.TheVariants.{Refused, Memory}
 use Rattle.core_token.specs.declared.lexeme.Lexeme.{Lexeme}
 use Rattle.core_token.specs.declared.scan.Scan.{Scan}
-use Rattle.core_token.specs.Bytes.{is_space, is_before_line_end}
-use Rattle.core_token.specs.Places.{start, place_after}
+use Rattle.core_text.specs.Bytes.{is_space, is_before_line_end}
+use Rattle.core_text.specs.Places.{start, place_after}
+use Rattle.core_text.specs.Walks.{walk}
+use Rattle.core_text.specs.Utf8.{ill_formed}
 use Rattle.core_token.specs.Lexemes.{lexeme_at}
-use Rattle.core_token.specs.Utf8.{walk, ill_formed}
 
 -- a text's tokens, or its first fault and the place of it
 abbrev pub Reading : Type 0

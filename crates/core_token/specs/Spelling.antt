@@ -1,37 +1,42 @@
--- What each sort of token is spelled like: the fact `Spells sort cs us` says that the bytes cs are a token of this sort where us comes behind them. The
--- longest token is taken, so nothing that would make it longer stands in us.
-use Rattle.std.specs.Prelude.{◌≡◌, ℕ, ◌<◌, ◌≤◌, Bool, true, false, ◌||◌, ◌==◌, List, [], ◌∷◌, ◌++◌, length, take, drop, Some}
-use Rattle.std.specs.List.{AllByRecursion}
+-- What white space, comments and tokens are spelled like. A relation between bytes and what stands behind them says that these bytes are a token of a
+-- sort there: the longest token is taken, so nothing that would make it longer stands behind it.
+use Rattle.std.specs.Prelude.{◌≡◌, ℕ, ◌<◌, ◌≤◌, ℤ, true, false, ◌||◌, ◌==◌, List, [], ◌∷◌, ◌++◌, length}
+use Rattle.hipe_terms.specs.declared.limits.TheConstants.{ATOM_LIMIT}
+use Rattle.hipe_terms.specs.Range.{is_in_range}
+use Rattle.core_text.specs.Bytes.{is_space, is_upper, is_word_byte, is_before_line_end, begins}
+use Rattle.core_text.specs.Fronts.{ArePassing, BeginsWithNone}
+use Rattle.core_text.specs.Characters.{IsCodePoint, IsQuoted}
+use Rattle.core_text.specs.Numbers.{IsInteger, IsFloat}
 use Rattle.core_token.specs.declared.token.Sort.{Sort}
 use Rattle.core_token.specs.declared.token.Sort.TheVariants.{Atom, Variable, Integer, Float, Character, Text, Word, Sign}
-use Rattle.core_token.specs.declared.escape.Escape.{Escape}
-use Rattle.core_token.specs.declared.quoted.Quoted.{Quoted}
-use Rattle.core_token.specs.Bytes.{is_digit, is_upper, is_word_byte, is_continuation, begins, number_from}
-use Rattle.core_token.specs.Escapes.{escape_at}
-use Rattle.core_token.specs.Lexemes.{quoted_at, most_code_points, fraction_length, greatest_integer, farthest_below, is_word, is_short_sign}
+use Rattle.core_token.specs.declared.token.TokenKind.{TokenKind}
+use Rattle.core_token.specs.declared.token.TokenKind.TheVariants.{Token, WideInteger, LongAtom}
+use Rattle.core_token.specs.Lexemes.{is_word, is_short_sign}
 
-abbrev pub AreAll : (ℕ → Bool) → List ℕ → Type 0
-AreAll test cs = AllByRecursion (λ c. test c ≡ true) cs
+-- white space, or a comment: `%` and all that stands before the end of the line
+pub data IsBlank : List ℕ → List ℕ → Type 0 where
+  space : {c : ℕ} {us : List ℕ} → is_space c ≡ true → IsBlank (c ∷ []) us
+  comment : {cs us : List ℕ} → ArePassing is_before_line_end cs us → IsBlank (37 ∷ cs) us
 
--- a sign or none, and how far an integer behind it goes
-pub data IsSign : List ℕ → ℕ → Type 0 where
-  none : IsSign [] greatest_integer
-  plus : IsSign (43 ∷ []) greatest_integer
-  minus : IsSign (45 ∷ []) farthest_below
-
--- digits, and no digit behind them
-abbrev pub AreDigits : List ℕ → List ℕ → Type 0
-AreDigits ds us = (0 < length ds) × AreAll is_digit ds × (begins is_digit us ≡ false)
+-- an atom of the code points vs, however many they are
+pub data IsAtom : List ℕ → List ℕ → List ℕ → Type 0 where
+  quoted : {vs cs us : List ℕ} → IsQuoted 39 vs cs us → IsAtom vs (39 ∷ cs) us
 
 pub data Spells : Sort → List ℕ → List ℕ → Type 0 where
-  atom : (s : List ℕ) (b : Quoted) → quoted_at 39 s ≡ Some b → b.code_points ≤ most_code_points → Spells Atom (39 ∷ take b.length s) (drop b.length s)
-  text : (s : List ℕ) (b : Quoted) → quoted_at 34 s ≡ Some b → Spells Text (34 ∷ take b.length s) (drop b.length s)
-  character : {c : ℕ} {cs us : List ℕ} → (c ≡ 92 → ⊥) → AreAll is_continuation cs → begins is_continuation us ≡ false → Spells Character (36 ∷ c ∷ cs) us
-  escaped_character : (s : List ℕ) (e : Escape) → escape_at s ≡ Some e → Spells Character (36 ∷ 92 ∷ take e.length s) (drop e.length s)
-  variable : {c : ℕ} {cs us : List ℕ} → (is_upper c || c == 95) ≡ true → AreAll is_word_byte cs → begins is_word_byte us ≡ false → Spells Variable (c ∷ cs) us
-  integer : {ss : List ℕ} {most : ℕ} (ds us : List ℕ) → IsSign ss most → AreDigits ds us → fraction_length us ≡ 0 → number_from 10 0 ds ≤ most → Spells Integer (ss ++ ds) us
-  float : {ss : List ℕ} {most : ℕ} (ds us : List ℕ) → IsSign ss most → AreDigits ds us → 0 < fraction_length us
-      → Spells Float (ss ++ ds ++ take (fraction_length us) us) (drop (fraction_length us) us)
+  atom : {vs cs us : List ℕ} → IsAtom vs cs us → length vs ≤ ATOM_LIMIT → Spells Atom cs us
+  text : {vs cs us : List ℕ} → IsQuoted 34 vs cs us → Spells Text (34 ∷ cs) us
+  character : {v : ℕ} {cs us : List ℕ} → IsCodePoint v cs us → Spells Character (36 ∷ cs) us
+  variable : {c : ℕ} {cs us : List ℕ} → (is_upper c || c == 95) ≡ true → ArePassing is_word_byte cs us → Spells Variable (c ∷ cs) us
+  integer : {n : ℤ} {cs us : List ℕ} → IsInteger n cs us → is_in_range n ≡ true → Spells Integer cs us
+  float : {cs us : List ℕ} → IsFloat cs us → Spells Float cs us
   word : {cs us : List ℕ} → is_word cs ≡ true → begins is_word_byte us ≡ false → Spells Word cs us
   sign : {c : ℕ} {us : List ℕ} → is_short_sign c ≡ true → Spells Sign (c ∷ []) us
   dash_sign : {d : ℕ} {us : List ℕ} → (d == 62 || d == 124) ≡ true → Spells Sign (45 ∷ d ∷ []) us
+
+-- what is wrong where a text goes on and has no white space, no comment and no token: an integer out of the range, an atom of too many code points, or
+-- else no token
+pub data IsFault : List ℕ → TokenKind → Type 0 where
+  wide_integer : {n : ℤ} {cs us : List ℕ} → IsInteger n cs us → is_in_range n ≡ false → IsFault (cs ++ us) WideInteger
+  long_atom : {vs cs us : List ℕ} → IsAtom vs cs us → ATOM_LIMIT < length vs → IsFault (cs ++ us) LongAtom
+  no_token : {s : List ℕ} → 0 < length s → BeginsWithNone IsBlank s → ((sort : Sort) → BeginsWithNone (Spells sort) s) → ((n : ℤ) → BeginsWithNone (IsInteger n) s)
+      → ((vs : List ℕ) → BeginsWithNone (IsAtom vs) s) → IsFault s Token

@@ -2,23 +2,25 @@
 
 ghost use Rattle.std.specs.Prelude.{◌≡◌, ℕ, ◌+◌, ◌<◌, ◌≤◌, ◌^◌, nat_eq, length, IfOk};
 ghost use Rattle.std.specs.Cmp.Lexicographic.{pointwise};
-ghost use Rattle.core_token.specs.Lexemes.{atom_of, text_of, quoted_at, character_at, is_word, is_short_sign, word_at, sign_at, unquoted_at, lexeme_at};
+ghost use Rattle.core_text.specs.Quotes.{quoted_at};
+ghost use Rattle.core_text.specs.CodePoints.{code_point_at};
+ghost use Rattle.core_token.specs.Lexemes.{atom_of, text_of, character_by, is_word, is_short_sign, word_at, sign_at, unquoted_at, lexeme_at};
 
-use crate::bytes::{
-    begins_with_digit, continuations, front, is_digit, is_lower, is_upper, rest_from, word_bytes,
-};
-use crate::escape::escape_at;
-use crate::number::{is_sign_byte, number_at};
-use crate::quoted::quoted_at;
+use crate::number::number_at;
 use crate::token::{Sort, TokenKind};
+use core_text::bytes::{
+    begins_with_digit, front, is_digit, is_lower, is_upper, rest_from, word_bytes,
+};
+use core_text::code_point::code_point_at;
+use core_text::fraction::is_sign_byte;
+use core_text::quoted::quoted_at;
+use hipe_terms::limits::{ATOM_LIMIT, GREATEST_INTEGER, LEAST_INTEGER};
 
-// The most code points of an atom.
-const ATOM_LIMIT: usize = 255;
+/// The greatest number that the digits of an integer stand for, without a sign or behind `+`.
+pub const GREATEST: u64 = GREATEST_INTEGER as u64;
 
-// The greatest integer, and how far integers go below 0: a word of 64 bits has 60 for the integer beside its tag.
-const GREATEST_INTEGER: u64 = 576_460_752_303_423_487;
-
-const FARTHEST_BELOW: u64 = 576_460_752_303_423_488;
+/// The greatest number that the digits of an integer stand for behind `-`.
+pub const FARTHEST_BELOW: u64 = (-LEAST_INTEGER) as u64;
 
 /// A token without its place: what it is, and how many bytes it has.
 #[derive(Clone, Copy)]
@@ -63,21 +65,16 @@ fn text_at(text: &[u8]) -> Result<Lexeme, TokenKind>
 // A character, whose `$` stands before the text.
 fn character_at(text: &[u8]) -> Result<Lexeme, TokenKind>
     requires { length text.now < 2 ^ 32 }
-    ensures lexeme { result ≡ character_at text.now }
+    ensures lexeme { result ≡ character_by (code_point_at text.now) }
     ensures within { IfOk result (λ l. (0 < l.length) × (l.length ≤ length text.now + 1)) }
 {
-    let length = match text.first() {
-        None => return Err(TokenKind::Token),
-        Some(b'\\') => match escape_at(rest_from(text, 1)) {
-            None => return Err(TokenKind::Token),
-            Some(escape) => escape.length + 2,
-        },
-        Some(_) => continuations(rest_from(text, 1)) + 2,
-    };
-    Ok(Lexeme {
-        sort: Sort::Character,
-        length,
-    })
+    match code_point_at(text) {
+        None => Err(TokenKind::Token),
+        Some(code_point) => Ok(Lexeme {
+            sort: Sort::Character,
+            length: code_point.length + 1,
+        }),
+    }
 }
 
 fn is(bytes: &[u8], word: &[u8]) -> bool
@@ -186,13 +183,13 @@ fn unquoted_at(text: &[u8]) -> Result<Lexeme, TokenKind>
     };
     let rest = rest_from(text, 1);
     if is_digit(first) {
-        return number_at(0, GREATEST_INTEGER, text);
+        return number_at(0, GREATEST, text);
     }
     if is_sign_byte(first) && begins_with_digit(rest) {
         let most = if first == b'-' {
             FARTHEST_BELOW
         } else {
-            GREATEST_INTEGER
+            GREATEST
         };
         return number_at(1, most, rest);
     }

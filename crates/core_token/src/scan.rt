@@ -1,15 +1,16 @@
 // The tokens of a whole text.
 
-ghost use Rattle.std.specs.Prelude.{◌≡◌, ℕ, ◌+◌, ◌<◌, ◌≤◌, ◌^◌, [], length, IfOk};
-ghost use Rattle.core_token.specs.Places.{start};
-ghost use Rattle.core_token.specs.Text.{IsUtf8, HasTokens, AnswersFault};
+ghost use Rattle.std.specs.Prelude.{◌≡◌, ℕ, ◌+◌, ◌<◌, ◌≤◌, ◌^◌, [], length, All, IfOk};
+ghost use Rattle.core_text.specs.Places.{start};
+ghost use Rattle.std.specs.Str.{IsUtf8};
+ghost use Rattle.core_token.specs.Text.{HasTokens, StandsIn, AreInOrder, AnswersFault};
 ghost use Rattle.core_token.specs.Reading.{blank_length, scan_step, scan_start, scanned, read, Answers, AnswersStep};
 
-use crate::bytes::{bytes_before_line_end, front, is_space, rest_from};
 use crate::lexeme::lexeme_at;
-use crate::place::{place_after, start};
 use crate::token::{Token, TokenFault, TokenKind, Tokens};
-use crate::utf8::ill_formed;
+use core_text::bytes::{bytes_before_line_end, front, is_space, rest_from};
+use core_text::place::{place_after, start};
+use core_text::utf8::ill_formed;
 use hipe_terms::Place;
 use std::alloc::Global;
 
@@ -108,6 +109,9 @@ pub fn tokens(alloc: Global, text: &[u8]) -> Result<Tokens, TokenFault>
     // What is read is what the text has: white space, comments and these tokens in turn.
     ensures utf8 { IfOk result (λ _. IsUtf8 text.now) }
     ensures tokens { IfOk result (λ ts. HasTokens text.now 0 start ts) }
+    // Each token stands in the text and has its value, and they stand in order.
+    ensures stand { IfOk result (λ ts. All (StandsIn text.now) ts) }
+    ensures order { IfOk result (λ ts. AreInOrder 0 ts) }
     // A refusal is that of the first byte that isn't UTF-8, and else of the first fault.
     ensures fault { AnswersFault text.now result }
     // There is one answer, but that memory may run out.

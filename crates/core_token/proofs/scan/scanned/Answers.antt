@@ -1,7 +1,7 @@
 use Rattle.std.proofs.Common.{drop, ap, sym, ◌∙◌, arith, length-drop, subst, Err}
-use Rattle.core_token.specs.Utf8.{walk}
+use Rattle.core_text.specs.Walks.{walk}
 use Rattle.core_token.specs.Reading.{scan_step, scan_end, AnswersStep}
-use Rattle.core_token.proofs.Walks.{walk_on}
+use Rattle.core_text.proofs.Walks.{walk_on}
 use Rattle.core_token.proofs.Steps.{refused}
 use Rattle.core_token.proofs.scan.scanned.Goals as goal
 

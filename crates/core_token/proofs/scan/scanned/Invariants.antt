@@ -1,5 +1,5 @@
 use Rattle.std.proofs.Common.{◌≡◌, ◌≤◌, ◌+◌, ◌-◌, length, drop}
-use Rattle.core_token.specs.Utf8.{walk}
+use Rattle.core_text.specs.Walks.{walk}
 use Rattle.core_token.specs.Reading.{scan_step, scan_end, scan_start}
 use Rattle.core_token.proofs.scan.scanned.Given as goal
 

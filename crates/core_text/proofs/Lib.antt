@@ -1,0 +1,12 @@
+pub mod Walks
+pub mod Numbers
+pub mod Fronts
+pub mod Encodings
+pub mod Escaping
+pub mod Points
+pub mod Quoting
+pub mod Fractions
+pub mod IllFormed
+pub mod Scalars
+pub mod Fewer
+pub mod Columns

@@ -1,0 +1,12 @@
+pub mod Bytes
+pub mod Places
+pub mod Walks
+pub mod Utf8
+pub mod Escapes
+pub mod CodePoints
+pub mod Quotes
+pub mod Fractions
+pub mod Fronts
+pub mod Characters
+pub mod Numbers
+pub mod Laws

@@ -1,0 +1,24 @@
+// What a text of Core Erlang is made of below its tokens: bytes, places, characters and escapes.
+//
+// Each function says what stands at the front of a text: how many bytes it has, and what it means. `ill_formed` finds the first
+// byte that isn't UTF-8.
+//
+// Files:
+//   bytes.rt        kinds of bytes, counted at the front of a text, and numbers that digits stand for
+//   place.rt        places in a text
+//   utf8.rt         the first byte of a text that isn't UTF-8
+//   escape.rt       escapes
+//   code_point.rt   code points, as themselves and by escapes
+//   quoted.rt       what stands between quotes
+//   fraction.rt     what makes a float of an integer
+//   laws.rt         what is read is what is spelled
+#![tactic(auto)]
+
+pub mod bytes;
+pub mod code_point;
+pub mod escape;
+pub mod fraction;
+pub mod laws;
+pub mod place;
+pub mod quoted;
+pub mod utf8;
