@@ -1,11 +1,10 @@
 -- The shape of instructions with a word in memory, in both directions, with and without the SIB byte.
-use Rattle.std.proofs.Common.{◌≡◌, ℕ, ◌+◌, ◌*◌, ◌/◌, ◌%◌, ◌<◌, true, false, List, [], ◌∷◌, ◌++◌, length, drop, replicate, refl, sym, ap, subst, ◌∙◌, arith, eqb, ℤ}
-use Rattle.std.specs.Prelude.{slice_index, FitsSigned}
+use Rattle.std.proofs.Common.{◌≡◌, ℕ, ◌+◌, ◌/◌, ◌%◌, ◌<◌, true, List, [], ◌∷◌, ◌++◌, length, drop, replicate, refl, sym, ap, subst, ◌∙◌, arith, ℤ}
+use Rattle.std.specs.Prelude.{FitsSigned}
 use Rattle.std.specs.Int.{w32}
 use Rattle.std.proofs.lemmas.Bool.{ne_eqb}
 use Rattle.std.proofs.lemmas.Bool.Decides.{nat_tests}
 use Rattle.amd64_form.specs.declared.reg.Reg.{Reg}
-use Rattle.amd64_form.specs.declared.form.Part.{Part}
 use Rattle.amd64_form.specs.declared.form.Part.TheVariants.{Byte, Wide, Memory, MemorySib, Any}
 use Rattle.amd64_form.specs.declared.form.Fit.TheVariants.{Whole}
 use Rattle.amd64_form.specs.Reg.{number, high, low}

@@ -1,5 +1,5 @@
 -- Each form, in both directions. A new form has a line in each of these lists.
-use Rattle.std.proofs.Common.{◌≡◌, ℕ, ◌+◌, ◌*◌, ◌%◌, ◌<◌, ℤ, List, [], ◌∷◌, ◌++◌, length, drop, take, refl, sym, ap, subst, ◌∙◌, arith, inl, inr, replicate}
+use Rattle.std.proofs.Common.{◌≡◌, ℕ, ◌+◌, ◌*◌, ◌%◌, ℤ, List, [], ◌∷◌, ◌++◌, length, drop, take, refl, sym, ap, ◌∙◌, arith, inl, inr, replicate}
 use Rattle.std.specs.Prelude.{slice_index, FitsSigned}
 use Rattle.std.specs.Int.{w32, w64, from_le_bytes, cast_signed}
 use Rattle.std.proofs.lemmas.Bool.{cases_lt, cases_eq}
@@ -13,7 +13,7 @@ use Rattle.amd64_form.specs.declared.operation.ShiftOp.TheVariants as shifts
 use Rattle.amd64_form.specs.declared.condition.Condition.TheVariants as conditions
 use Rattle.amd64_form.specs.declared.inst.Inst.{Inst}
 use Rattle.amd64_form.specs.declared.inst.Inst.TheVariants.{Move, Load, Store, LoadConstant, Binary, BinaryConstant, Unary, Multiply, SignExtend, Shift, ShiftByCl, LoadAddress, Jump, Call, JumpIf, CallRegister, JumpRegister, Push, Pop, Return, Syscall}
-use Rattle.amd64_form.specs.declared.form.Part.TheVariants.{Byte, Wide, Plus, Memory, MemorySib, Count, Any}
+use Rattle.amd64_form.specs.declared.form.Part.TheVariants.{Byte, Wide, Plus, Memory, MemorySib, Any}
 use Rattle.amd64_form.specs.declared.form.Fit.TheVariants.{Whole}
 use Rattle.amd64_form.specs.declared.form.Form.{Form}
 use Rattle.amd64_form.specs.declared.form.Form.TheVariants as forms
@@ -24,7 +24,7 @@ use Rattle.amd64_form.specs.Inst.{IsInst}
 use Rattle.amd64_form.specs.Encoding.{rex, mod_rm, mod_rm_memory, encoding, one_register, short_register, near_register, memory, constant_32, constant_64}
 use Rattle.amd64_form.specs.Form.{fit, parts_of, inst_of, rm_field, reg_at, rm_at, signed_at}
 use Rattle.amd64_form.proofs.Table.{Has, has_at, fits}
-use Rattle.amd64_form.proofs.Shapes.{one_more, two_registers_whole, two_registers_read, one_register_whole, one_register_fits, one_register_field, wide_opcode_whole, wide_opcode_fits, wide_opcode_field, short_low, short_high, short_low_whole, short_high_whole, short_low_fits, short_high_fits, short_low_field, short_high_field, near_low, near_high, near_low_whole, near_high_whole, near_low_fits, near_high_fits, near_low_field, near_high_field, multiply_whole, multiply_fits, multiply_fields, fixed_whole, fixed_fits, jump_whole, shift_whole, shift_fits, constant_64_whole, constant_64_fits, constant_64_field, constant_32_whole, constant_32_fits, constant_32_field}
+use Rattle.amd64_form.proofs.Shapes.{two_registers_whole, two_registers_read, one_register_whole, one_register_fits, one_register_field, wide_opcode_whole, wide_opcode_fits, wide_opcode_field, short_low, short_high, short_low_whole, short_high_whole, short_low_fits, short_high_fits, short_low_field, short_high_field, near_low, near_high, near_low_whole, near_high_whole, near_low_fits, near_high_fits, near_low_field, near_high_field, multiply_whole, multiply_fits, multiply_fields, fixed_whole, fixed_fits, jump_whole, shift_whole, shift_fits, constant_64_whole, constant_64_fits, constant_64_field, constant_32_whole, constant_32_fits, constant_32_field}
 use Rattle.amd64_form.proofs.Memory.{memory_whole, memory_sib_whole, memory_bytes, memory_sib_bytes, memory_fits, memory_sib_fits, memory_fields}
 
 -- ---- bytes that fit a form whole are an encoding

@@ -1,5 +1,5 @@
 -- How many bytes an encoding has: one at least and ten at most.
-use Rattle.std.proofs.Common.{◌≡◌, ℕ, ◌+◌, ◌<◌, ◌≤◌, true, false, List, [], ◌∷◌, ◌++◌, length, arith, length-append}
+use Rattle.std.proofs.Common.{ℕ, ◌+◌, ◌<◌, ◌≤◌, true, false, List, [], ◌∷◌, ◌++◌, length, arith, length-append}
 use Rattle.std.specs.Prelude.{Bool, nat_lt, nat_eq, if◌then◌else◌}
 use Rattle.amd64_form.specs.declared.reg.Reg.{Reg}
 use Rattle.amd64_form.specs.declared.inst.Inst.{Inst}

@@ -1,4 +1,4 @@
-use Rattle.std.proofs.Common.{◌≡◌, ◌∙◌, ap, sym, refl, rules}
+use Rattle.std.proofs.Common.{◌∙◌, ap, sym, refl, rules}
 use Rattle.std.specs.Prelude.{FitsSigned}
 use Rattle.std.specs.Int.{w32}
 use Rattle.amd64_form.specs.declared.reg.Reg.TheVariants.{Rsp}

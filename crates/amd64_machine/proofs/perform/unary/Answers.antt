@@ -1,4 +1,4 @@
-use Rattle.std.proofs.Common.{◌≡◌, ◌∙◌, ap, sym}
+use Rattle.std.proofs.Common.{◌∙◌, ap, sym}
 use Rattle.amd64_form.specs.declared.reg.Reg.TheVariants.{Rax, Rdx}
 use Rattle.amd64_machine.specs.Arithmetic.{signed, double, divided}
 use Rattle.amd64_machine.specs.Machine.{unary, quotient_put, word_in}
