@@ -1,11 +1,12 @@
 -- How bytes stand to the parts of a form.
 use Rattle.std.proofs.Common.{◌≡◌, ◌≢◌, ℕ, ◌+◌, ◌≤◌, ◌<◌, Bool, true, false, cond, List, [], ◌∷◌, ◌++◌, length, drop, map, zero, suc, not, ◌&&◌, ◌||◌, ◌⊎◌, inl, inr, ◌*◌, ◌/◌, refl, ap, subst, ◌∙◌, arith}
-use Rattle.std.proofs.lemmas.Bool.{cases_lt}
+use Rattle.std.specs.Prelude.{nat_lt}
+use Rattle.std.proofs.lemmas.Bool.{cases_lt, ltb-true}
 use Rattle.std.proofs.lemmas.Bool.Decides.{nat_tests}
 use Rattle.std.proofs.lemmas.List.{length-map, drop_all}
 use Rattle.std.proofs.Math.Seq.{drop-cons}
 use Rattle.amd64_form.specs.declared.form.Part.{Part}
-use Rattle.amd64_form.specs.declared.form.Part.TheVariants.{Byte, Wide, WideOne, Plus, ModRm, Any}
+use Rattle.amd64_form.specs.declared.form.Part.TheVariants.{Byte, Wide, WideOne, Plus, ModRm, Memory, MemorySib, Count, Any}
 use Rattle.amd64_form.specs.declared.form.Fit.{Fit}
 use Rattle.amd64_form.specs.declared.form.Fit.TheVariants.{Whole, Front, Apart}
 use Rattle.amd64_form.specs.Form.{admits, fit}
@@ -56,16 +57,22 @@ abbrev pub least : Part → ℕ
 least (Byte value) = value
 least Wide = 0x48
 least WideOne = 0x48
-least (Plus value) = value
+least (Plus value) = 8 * (value / 8)
 least ModRm = 0xC0
+least Memory = 0x80
+least MemorySib = 0x84
+least Count = 0
 least Any = 0
 
 least_admitted : (p : Part) → admits p (least p) ≡ true
 least_admitted (Byte value) = grind arith
 least_admitted Wide = refl
 least_admitted WideOne = refl
-least_admitted (Plus value) = grind arith
+least_admitted (Plus value) = grind (arith, nat_tests)
 least_admitted ModRm = refl
+least_admitted Memory = refl
+least_admitted MemorySib = refl
+least_admitted Count = refl
 least_admitted Any = refl
 
 least_fit : (ps : List Part) → fit ps (map least ps) ≡ Whole
@@ -95,6 +102,9 @@ most Wide = 0x4D
 most WideOne = 0x49
 most (Plus value) = 8 * (value / 8) + 7
 most ModRm = 255
+most Memory = 0xBF
+most MemorySib = 0xBC
+most Count = 63
 most Any = 255
 
 admitted_at_most : (p : Part) (b : ℕ) → admits p b ≡ true → b ≤ most p
@@ -103,15 +113,31 @@ admitted_at_most Wide b e = grind (arith, nat_tests)
 admitted_at_most WideOne b e = grind (arith, nat_tests)
 admitted_at_most (Plus value) b e = grind (arith, nat_tests)
 admitted_at_most ModRm b e = grind (arith, nat_tests)
+admitted_at_most Memory b e = grind (arith, nat_tests)
+admitted_at_most MemorySib b e = grind (arith, nat_tests)
+admitted_at_most Count b e = grind (arith, nat_tests)
 admitted_at_most Any b e = grind (arith, nat_tests)
+
+admitted_at_least : (p : Part) (b : ℕ) → admits p b ≡ true → least p ≤ b
+admitted_at_least (Byte value) b e = grind (arith, nat_tests)
+admitted_at_least Wide b e = grind (arith, nat_tests)
+admitted_at_least WideOne b e = grind (arith, nat_tests)
+admitted_at_least (Plus value) b e = grind (arith, nat_tests)
+admitted_at_least ModRm b e = grind (arith, nat_tests)
+admitted_at_least Memory b e = grind (arith, nat_tests)
+admitted_at_least MemorySib b e = grind (arith, nat_tests)
+admitted_at_least Count b e = grind (arith, nat_tests)
+admitted_at_least Any b e = grind (arith, nat_tests)
 
 -- every number below n passes the test
 abbrev pub all_below : (ℕ → Bool) → ℕ → Bool
 all_below test zero = true
 all_below test (suc n) = test n && all_below test n
 
+-- no byte is admitted by both
 abbrev none_common : Part → Part → Bool
-none_common p q = all_below (λ b. not (admits p b && admits q b)) (suc (most p))
+none_common p q =
+    nat_lt (most p) (least q) || (nat_lt (most q) (least p) || all_below (λ b. not (admits p b && admits q b)) (suc (most p)))
 
 -- at some place no byte is admitted by both
 abbrev pub are_apart : List Part → List Part → Bool
@@ -143,7 +169,14 @@ at_below test (suc n) k e lt =
 
 none_admitted : (p q : Part) (b : ℕ) → none_common p q ≡ true → admits p b ≡ true → admits q b ≡ true → ⊥
 none_admitted p q b e x y =
-    not_both (admits p b) (admits q b) (at_below (λ b. not (admits p b && admits q b)) (suc (most p)) b e (omega (arith, admitted_at_most p b x))) x y
+    let test : ℕ → Bool = λ c. not (admits p c && admits q c) in
+    elim (either (nat_lt (most p) (least q)) (nat_lt (most q) (least p) || all_below test (suc (most p))) e) [
+      | inl below ↦ let lt : most p < least q = ltb-true (most p) (least q) below in absurd (omega (arith, lt, admitted_at_most p b x, admitted_at_least q b y))
+      | inr others ↦ elim (either (nat_lt (most q) (least p)) (all_below test (suc (most p))) others) [
+        | inl above ↦ let lt : most q < least p = ltb-true (most q) (least p) above in absurd (omega (arith, lt, admitted_at_most q b y, admitted_at_least p b x))
+        | inr each ↦ not_both (admits p b) (admits q b) (at_below test (suc (most p)) b each (omega (arith, admitted_at_most p b x))) x y
+      ]
+    ]
 
 not_true : (t : Bool) → (t ≡ true → ⊥) → t ≡ false
 not_true true h = absurd (h refl)

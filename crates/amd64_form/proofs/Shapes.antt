@@ -1,20 +1,21 @@
 -- The shapes of encodings, each in both directions: bytes that fit its parts are such an encoding, and such an encoding fits them.
-use Rattle.std.proofs.Common.{◌≡◌, ℕ, zero, suc, ◌+◌, ◌*◌, ◌/◌, ◌%◌, ◌<◌, ◌≤◌, ◌^◌, true, false, List, [], ◌∷◌, ◌++◌, length, take, drop, replicate, get_or, refl, sym, ap, subst, ◌∙◌, arith, ltb, ℤ, Fits}
+use Rattle.std.proofs.Common.{◌≡◌, ℕ, zero, suc, ◌+◌, ◌*◌, ◌/◌, ◌%◌, ◌<◌, ◌≤◌, ◌^◌, true, false, List, [], ◌∷◌, ◌++◌, length, take, drop, replicate, map, get_or, append_assoc, refl, sym, ap, subst, ◌∙◌, arith, ltb, ℤ, Fits}
 use Rattle.std.specs.Prelude.{slice_index, FitsSigned}
 use Rattle.std.specs.Int.{w32, w64, byte_at, bytes_low_first, to_le_bytes, from_le_bytes, cast_unsigned, cast_signed}
-use Rattle.std.proofs.lemmas.Bool.{eqb-true, ltb-true}
+use Rattle.std.proofs.lemmas.Bool.{eqb-true, ltb-true, lt-ltb}
 use Rattle.std.proofs.lemmas.Bool.Decides.{nat_tests}
-use Rattle.std.proofs.lemmas.List.{take-append-drop, length-take, take_at}
+use Rattle.std.proofs.lemmas.List.{take-append-drop, length-take, take_at, drop-drop}
 use Rattle.std.proofs.lemmas.Nat.{le_bytes_4, le_bytes_8, from_le_bytes-to_le_bytes_4, from_le_bytes-to_le_bytes_8}
 use Rattle.std.proofs.Math.Facts.{sfits_to_z, Fits-of_z}
 use Rattle.std.proofs.lemmas.Int.{of_z-to_z, to_z-of_z}
 use Rattle.amd64_form.specs.declared.reg.Reg.{Reg}
 use Rattle.amd64_form.specs.declared.form.Part.{Part}
-use Rattle.amd64_form.specs.declared.form.Part.TheVariants.{Byte, Wide, WideOne, Plus, ModRm, Any}
+use Rattle.amd64_form.specs.declared.form.Part.TheVariants.{Byte, Wide, WideOne, Plus, ModRm, Count, Any}
 use Rattle.amd64_form.specs.declared.form.Fit.TheVariants.{Whole}
 use Rattle.amd64_form.specs.Reg.{number, high, low}
-use Rattle.amd64_form.specs.Encoding.{rex, mod_rm, two_registers, one_register, short_register, constant_64, constant_32}
-use Rattle.amd64_form.specs.Form.{admits, fit, reg_field, rm_field}
+use Rattle.amd64_form.specs.declared.inst.Inst.TheVariants.{Multiply}
+use Rattle.amd64_form.specs.Encoding.{rex, mod_rm, two_registers, one_register, prefix_of, short_register, near_register, constant_64, constant_32, encoding}
+use Rattle.amd64_form.specs.Form.{admits, fit, reg_field, rm_field, reg_at, rm_at, signed_at}
 use Rattle.amd64_form.proofs.Fit.{whole_test, passed}
 use Rattle.amd64_form.proofs.Fields.{number_below, reg_bits, rm_bits, wide_is, wide_of_one_is, mod_rm_is, with_register_is, wide_admitted, wide_of_one_admitted, mod_rm_admitted, with_register_admitted, reg_field_is, rm_field_is}
 
@@ -39,7 +40,7 @@ one_more p ps b bs x y = passed (admits p b) (fit ps bs) x ∙ y
 pub byte_is : (value b : ℕ) → admits (Byte value) b ≡ true → b ≡ value
 byte_is value b e = eqb-true b value e
 
-byte_admitted : (value : ℕ) → admits (Byte value) value ≡ true
+pub byte_admitted : (value : ℕ) → admits (Byte value) value ≡ true
 byte_admitted value = grind (arith, nat_tests)
 
 -- ---- two registers
@@ -138,15 +139,21 @@ wide_opcode_field k m =
 
 -- ---- a register in an opcode, which is 8 k, with a prefix from r8 on
 
-pub short_low : (opcode : ℕ) (r : Reg) → number r < 8 → short_register opcode r ≡ (opcode + low r) ∷ []
-short_low opcode r lt =
+pub prefix_low : (r : Reg) → number r < 8 → prefix_of r ≡ []
+prefix_low r lt =
     let t : ltb (number r) 8 ≡ true = grind (arith, nat_tests) in
     rw t refl
 
-pub short_high : (opcode : ℕ) (r : Reg) → 8 ≤ number r → short_register opcode r ≡ 0x41 ∷ (opcode + low r) ∷ []
-short_high opcode r le =
+pub prefix_high : (r : Reg) → 8 ≤ number r → prefix_of r ≡ 0x41 ∷ []
+prefix_high r le =
     let t : ltb (number r) 8 ≡ false = grind (arith, nat_tests) in
     rw t refl
+
+pub short_low : (opcode : ℕ) (r : Reg) → number r < 8 → short_register opcode r ≡ (opcode + low r) ∷ []
+short_low opcode r lt = ap (λ (s : List ℕ). s ++ (opcode + low r) ∷ []) (prefix_low r lt)
+
+pub short_high : (opcode : ℕ) (r : Reg) → 8 ≤ number r → short_register opcode r ≡ 0x41 ∷ (opcode + low r) ∷ []
+short_high opcode r le = ap (λ (s : List ℕ). s ++ (opcode + low r) ∷ []) (prefix_high r le)
 
 pub short_low_whole : (k : ℕ) (bs : List ℕ) → fit (Plus (8 * k) ∷ []) bs ≡ Whole → (bs ≡ short_register (8 * k) (rm_field 0 (slice_index bs 0)) ++ drop 1 bs) × (length (short_register (8 * k) (rm_field 0 (slice_index bs 0))) ≡ 1)
 short_low_whole k bs e =
@@ -191,6 +198,121 @@ pub short_high_field : (k : ℕ) (r : Reg) → 8 ≤ number r → rm_field 0x41 
 short_high_field k r le =
     let b : number r < 16 = number_below r in
     rm_field_is 0x41 _ r (omega arith) (omega arith)
+
+-- ---- a register behind an opcode that goes on in the field reg, with a prefix from r8 on
+
+pub near_low : (opcode digit : ℕ) (r : Reg) → number r < 8 → near_register opcode digit r ≡ opcode ∷ mod_rm digit (low r) ∷ []
+near_low opcode digit r lt = ap (λ (s : List ℕ). s ++ opcode ∷ mod_rm digit (low r) ∷ []) (prefix_low r lt)
+
+pub near_high : (opcode digit : ℕ) (r : Reg) → 8 ≤ number r → near_register opcode digit r ≡ 0x41 ∷ opcode ∷ mod_rm digit (low r) ∷ []
+near_high opcode digit r le = ap (λ (s : List ℕ). s ++ opcode ∷ mod_rm digit (low r) ∷ []) (prefix_high r le)
+
+-- such a ModRm byte
+digit_is : (digit prefix b : ℕ) → admits (Plus (0xC0 + 8 * digit)) b ≡ true → b ≡ mod_rm digit (low (rm_field prefix b))
+digit_is digit prefix b e =
+    let d : b ≡ 8 * ((0xC0 + 8 * digit) / 8) + b % 8 = with_register_is (0xC0 + 8 * digit) b e in
+    let rm = rm_bits prefix b in
+    rw rm.1 (omega arith)
+
+digit_admitted : (digit : ℕ) (m : Reg) → admits (Plus (0xC0 + 8 * digit)) (mod_rm digit (low m)) ≡ true
+digit_admitted digit m = grind (arith, nat_tests)
+
+pub near_low_whole : (opcode digit : ℕ) (bs : List ℕ) → fit (Byte opcode ∷ Plus (0xC0 + 8 * digit) ∷ []) bs ≡ Whole
+    → (bs ≡ near_register opcode digit (rm_field 0 (slice_index bs 1)) ++ drop 2 bs) × (length (near_register opcode digit (rm_field 0 (slice_index bs 1))) ≡ 2)
+near_low_whole opcode digit bs e =
+    let x = cell (Byte opcode) (Plus (0xC0 + 8 * digit) ∷ []) bs e in
+    let y = cell (Plus (0xC0 + 8 * digit)) [] x.others x.fits in
+    let b : x.first ≡ opcode = byte_is opcode x.first x.admitted in
+    let at : bs ≡ x.first ∷ y.first ∷ y.others = cc (x.is, y.is) in
+    let r : Reg = rm_field 0 y.first in
+    let rm = rm_bits 0 y.first in
+    let lt : number r < 8 = omega (arith, rm.0) in
+    let a : y.first ≡ mod_rm digit (low r) = digit_is digit 0 y.first y.admitted in
+    let is : near_register opcode digit r ≡ x.first ∷ y.first ∷ [] = near_low opcode digit r lt ∙ cc in
+    subst (λ (s : List ℕ). (s ≡ near_register opcode digit (rm_field 0 (slice_index s 1)) ++ drop 2 s) × (length (near_register opcode digit (rm_field 0 (slice_index s 1))) ≡ 2)) (sym at)
+    (ap (λ (s : List ℕ). s ++ y.others) (sym is), ap length is)
+
+pub near_high_whole : (opcode digit : ℕ) (bs : List ℕ) → fit (Byte 0x41 ∷ Byte opcode ∷ Plus (0xC0 + 8 * digit) ∷ []) bs ≡ Whole
+    → (bs ≡ near_register opcode digit (rm_field (slice_index bs 0) (slice_index bs 2)) ++ drop 3 bs) × (length (near_register opcode digit (rm_field (slice_index bs 0) (slice_index bs 2))) ≡ 3)
+near_high_whole opcode digit bs e =
+    let w = cell (Byte 0x41) (Byte opcode ∷ Plus (0xC0 + 8 * digit) ∷ []) bs e in
+    let x = cell (Byte opcode) (Plus (0xC0 + 8 * digit) ∷ []) w.others w.fits in
+    let y = cell (Plus (0xC0 + 8 * digit)) [] x.others x.fits in
+    let p : w.first ≡ 0x41 = byte_is 0x41 w.first w.admitted in
+    let b : x.first ≡ opcode = byte_is opcode x.first x.admitted in
+    let at : bs ≡ w.first ∷ x.first ∷ y.first ∷ y.others = cc (w.is, x.is, y.is) in
+    let r : Reg = rm_field w.first y.first in
+    let rm = rm_bits w.first y.first in
+    let le : 8 ≤ number r = omega (arith, rm.0, p) in
+    let a : y.first ≡ mod_rm digit (low r) = digit_is digit w.first y.first y.admitted in
+    let is : near_register opcode digit r ≡ w.first ∷ x.first ∷ y.first ∷ [] = near_high opcode digit r le ∙ cc in
+    subst (λ (s : List ℕ). (s ≡ near_register opcode digit (rm_field (slice_index s 0) (slice_index s 2)) ++ drop 3 s) × (length (near_register opcode digit (rm_field (slice_index s 0) (slice_index s 2))) ≡ 3)) (sym at)
+    (ap (λ (s : List ℕ). s ++ y.others) (sym is), ap length is)
+
+pub near_low_fits : (opcode digit : ℕ) (r : Reg) (rest : List ℕ) → fit (Byte opcode ∷ Plus (0xC0 + 8 * digit) ∷ []) (opcode ∷ mod_rm digit (low r) ∷ rest) ≡ Whole
+near_low_fits opcode digit r rest =
+    one_more (Byte opcode) (Plus (0xC0 + 8 * digit) ∷ []) opcode (mod_rm digit (low r) ∷ rest) (byte_admitted opcode)
+    (one_more (Plus (0xC0 + 8 * digit)) [] (mod_rm digit (low r)) rest (digit_admitted digit r) refl)
+
+pub near_high_fits : (opcode digit : ℕ) (r : Reg) (rest : List ℕ) → fit (Byte 0x41 ∷ Byte opcode ∷ Plus (0xC0 + 8 * digit) ∷ []) (0x41 ∷ opcode ∷ mod_rm digit (low r) ∷ rest) ≡ Whole
+near_high_fits opcode digit r rest =
+    one_more (Byte 0x41) (Byte opcode ∷ Plus (0xC0 + 8 * digit) ∷ []) 0x41 (opcode ∷ mod_rm digit (low r) ∷ rest) refl (near_low_fits opcode digit r rest)
+
+pub near_low_field : (digit : ℕ) (r : Reg) → number r < 8 → rm_field 0 (mod_rm digit (low r)) ≡ r
+near_low_field digit r lt = rm_field_is 0 _ r (omega arith) (omega arith)
+
+pub near_high_field : (digit : ℕ) (r : Reg) → 8 ≤ number r → rm_field 0x41 (mod_rm digit (low r)) ≡ r
+near_high_field digit r le =
+    let b : number r < 16 = number_below r in
+    rm_field_is 0x41 _ r (omega arith) (omega arith)
+
+-- ---- the product, whose opcode has two bytes
+
+pub multiply_whole : (bs : List ℕ) → fit (Wide ∷ Byte 0x0F ∷ Byte 0xAF ∷ ModRm ∷ []) bs ≡ Whole → bs ≡ encoding (Multiply (reg_at bs 3) (rm_at bs 3)) ++ drop 4 bs
+multiply_whole bs e =
+    let x = cell Wide (Byte 0x0F ∷ Byte 0xAF ∷ ModRm ∷ []) bs e in
+    let y = cell (Byte 0x0F) (Byte 0xAF ∷ ModRm ∷ []) x.others x.fits in
+    let w = cell (Byte 0xAF) (ModRm ∷ []) y.others y.fits in
+    let z = cell ModRm [] w.others w.fits in
+    let is : bs ≡ x.first ∷ y.first ∷ w.first ∷ z.first ∷ z.others = cc (x.is, y.is, w.is, z.is) in
+    let reg = reg_bits x.first z.first in
+    let rm = rm_bits x.first z.first in
+    let a : x.first ≡ rex 1 (high (reg_field x.first z.first)) 0 (high (rm_field x.first z.first)) = rw (reg.0, rm.0) (wide_is x.first x.admitted) in
+    let b : y.first ≡ 0x0F = byte_is 0x0F y.first y.admitted in
+    let c : w.first ≡ 0xAF = byte_is 0xAF w.first w.admitted in
+    let d : z.first ≡ mod_rm (low (reg_field x.first z.first)) (low (rm_field x.first z.first)) = rw (reg.1, rm.1) (mod_rm_is z.first z.admitted) in
+    subst (λ (s : List ℕ). s ≡ encoding (Multiply (reg_at s 3) (rm_at s 3)) ++ drop 4 s) (sym is) cc
+
+pub multiply_fits : (r m : Reg) (rest : List ℕ) → fit (Wide ∷ Byte 0x0F ∷ Byte 0xAF ∷ ModRm ∷ []) (encoding (Multiply r m) ++ rest) ≡ Whole
+multiply_fits r m rest =
+    one_more Wide (Byte 0x0F ∷ Byte 0xAF ∷ ModRm ∷ []) (rex 1 (high r) 0 (high m)) (0x0F ∷ 0xAF ∷ mod_rm (low r) (low m) ∷ rest) (wide_admitted r m)
+    (one_more ModRm [] (mod_rm (low r) (low m)) rest (mod_rm_admitted r m) refl)
+
+pub multiply_fields : (r m : Reg)
+    → (reg_field (rex 1 (high r) 0 (high m)) (mod_rm (low r) (low m)) ≡ r) × (rm_field (rex 1 (high r) 0 (high m)) (mod_rm (low r) (low m)) ≡ m)
+multiply_fields r m =
+    let a : number r < 16 = number_below r in
+    let b : number m < 16 = number_below m in
+    (reg_field_is _ _ r (omega arith) (omega arith), rm_field_is _ _ m (omega arith) (omega arith))
+
+-- ---- fixed bytes
+
+pub record FixedIs (xs : List ℕ) (ps : List Part) (bs : List ℕ) : Type 0 where
+  pub is : bs ≡ xs ++ drop (length xs) bs
+  pub fits : fit ps (drop (length xs) bs) ≡ Whole
+
+pub fixed_whole : (xs : List ℕ) (ps : List Part) (bs : List ℕ) → fit (map Byte xs ++ ps) bs ≡ Whole → FixedIs xs ps bs
+fixed_whole [] ps bs e = record { is = refl; fits = e }
+fixed_whole (x ∷ xs) ps bs e =
+    let c = cell (Byte x) (map Byte xs ++ ps) bs e in
+    let rest = fixed_whole xs ps c.others c.fits in
+    let first : c.first ≡ x = byte_is x c.first c.admitted in
+    let is : c.first ∷ c.others ≡ x ∷ xs ++ drop (length xs) c.others = cc (first, rest.is) in
+    subst (FixedIs (x ∷ xs) ps) (sym c.is) (record { is = is; fits = rest.fits })
+
+pub fixed_fits : (xs : List ℕ) (ps : List Part) (rest : List ℕ) → fit ps rest ≡ Whole → fit (map Byte xs ++ ps) (xs ++ rest) ≡ Whole
+fixed_fits [] ps rest e = e
+fixed_fits (x ∷ xs) ps rest e = one_more (Byte x) (map Byte xs ++ ps) x (xs ++ rest) (byte_admitted x) (fixed_fits xs ps rest e)
 
 -- ---- constants
 
@@ -264,3 +386,42 @@ constant_32_field value rest fits =
     let below : cast_unsigned w32 value < 2 ^ 32 = omega arith in
     ap (λ (s : List ℕ). cast_signed w32 (from_le_bytes w32 s)) (take_at (constant_32 value) rest 4 refl)
     ∙ ap (cast_signed w32) (from_le_bytes-to_le_bytes_4 (cast_unsigned w32 value) below) ∙ to_z-of_z w32 value fits
+
+-- ---- fixed bytes and a constant
+
+pub record JumpIs (xs : List ℕ) (bs : List ℕ) : Type 0 where
+  pub is : bs ≡ (xs ++ constant_32 (signed_at bs (length xs))) ++ drop (length xs + 4) bs
+  pub fits : FitsSigned w32 (signed_at bs (length xs))
+
+pub jump_whole : (xs : List ℕ) (bs : List ℕ) → fit (map Byte xs ++ replicate 4 Any) bs ≡ Whole → JumpIs xs bs
+jump_whole xs bs e =
+    let f = fixed_whole xs (replicate 4 Any) bs e in
+    let c = constant_32_whole (drop (length xs) bs) f.fits in
+    let value : List ℕ = constant_32 (signed_at bs (length xs)) in
+    let rest : drop 4 (drop (length xs) bs) ≡ drop (length xs + 4) bs = drop-drop 4 (length xs) bs in
+    record {
+      is = f.is ∙ ap (λ (s : List ℕ). xs ++ s) (c.is ∙ ap (λ (s : List ℕ). value ++ s) rest) ∙ sym (append_assoc xs value (drop (length xs + 4) bs));
+      fits = c.fits;
+    }
+
+-- ---- a shift's count
+
+pub record ShiftIs (digit : ℕ) (bs : List ℕ) : Type 0 where
+  pub is : bs ≡ (one_register 0xC1 digit (rm_at bs 2) ++ (slice_index bs 3 % 64) ∷ []) ++ drop 4 bs
+
+pub shift_whole : (digit : ℕ) (bs : List ℕ) → fit (WideOne ∷ Byte 0xC1 ∷ Plus (0xC0 + 8 * digit) ∷ Count ∷ []) bs ≡ Whole → ShiftIs digit bs
+shift_whole digit bs e =
+    let x = cell WideOne (Byte 0xC1 ∷ Plus (0xC0 + 8 * digit) ∷ Count ∷ []) bs e in
+    let y = cell (Byte 0xC1) (Plus (0xC0 + 8 * digit) ∷ Count ∷ []) x.others x.fits in
+    let z = cell (Plus (0xC0 + 8 * digit)) (Count ∷ []) y.others y.fits in
+    let w = cell Count [] z.others z.fits in
+    let at : bs ≡ x.first ∷ y.first ∷ z.first ∷ w.first ∷ w.others = cc (x.is, y.is, z.is, w.is) in
+    let below : w.first < 64 = ltb-true w.first 64 w.admitted in
+    let same : w.first ≡ w.first % 64 = omega (arith, below) in
+    let there : fit (WideOne ∷ Byte 0xC1 ∷ Plus (0xC0 + 8 * digit) ∷ Count ∷ []) (x.first ∷ y.first ∷ z.first ∷ w.first ∷ w.others) ≡ Whole = subst (λ (s : List ℕ). fit (WideOne ∷ Byte 0xC1 ∷ Plus (0xC0 + 8 * digit) ∷ Count ∷ []) s ≡ Whole) at e in
+    let h = one_register_whole 0xC1 digit (Count ∷ []) (x.first ∷ y.first ∷ z.first ∷ w.first ∷ w.others) there in
+    subst (ShiftIs digit) (sym at) (record { is = h.is ∙ ap (λ n. one_register 0xC1 digit (rm_field x.first z.first) ++ n ∷ w.others) same })
+
+pub shift_fits : (digit n : ℕ) (m : Reg) (rest : List ℕ) → n < 64 → fit (WideOne ∷ Byte 0xC1 ∷ Plus (0xC0 + 8 * digit) ∷ Count ∷ []) ((one_register 0xC1 digit m ++ n ∷ []) ++ rest) ≡ Whole
+shift_fits digit n m rest lt =
+    one_register_fits 0xC1 digit m (Count ∷ []) (n ∷ rest) (one_more Count [] n rest (lt-ltb n 64 lt) refl)

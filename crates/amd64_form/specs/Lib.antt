@@ -1,4 +1,5 @@
 pub mod Reg
+pub mod Operation
 pub mod Inst
 pub mod Encoding
 pub mod Form

@@ -1,7 +1,7 @@
 -- What is fetched.
-use Rattle.std.proofs.Common.{◌≡◌, ℕ, ◌+◌, ◌-◌, ◌<◌, ◌≤◌, List, [], ◌∷◌, ◌++◌, length, drop, refl, sym, ap, ◌∙◌, subst, arith, length-append, length-drop, take}
+use Rattle.std.proofs.Common.{◌≡◌, ℕ, ◌+◌, ◌-◌, ◌<◌, ◌≤◌, List, ◌++◌, length, drop, refl, sym, ap, ◌∙◌, subst, arith, length-append, length-drop, take}
 use Rattle.std.proofs.Math.Seq.{take-length}
-use Rattle.std.specs.Prelude.{◌↔◌, true, false, ◌&&◌, Result, Ok, Err, IfOk, nat_le, nat_lt, if◌then◌else◌}
+use Rattle.std.specs.Prelude.{◌↔◌, true, false, ◌&&◌, Result, Ok, Err, IfOk, nat_le, nat_lt}
 use Rattle.std.proofs.Common.{inl, inr}
 use Rattle.std.proofs.lemmas.Bool.{cases_lt}
 use Rattle.std.proofs.lemmas.Bool.Decides.{nat_tests}
@@ -9,11 +9,10 @@ use Rattle.amd64_form.specs.declared.inst.Inst.{Inst}
 use Rattle.amd64_form.specs.declared.form.TheConstants.{FORMS}
 use Rattle.amd64_form.specs.declared.decoding.DecodeFault.{DecodeFault}
 use Rattle.amd64_form.specs.declared.decoding.DecodeFault.TheVariants.{Short, Unknown}
-use Rattle.amd64_form.specs.declared.inst.Inst.TheVariants.{Move, LoadConstant, Add, AddConstant, Push, Pop, Syscall}
-use Rattle.amd64_form.specs.Reg.{number, low}
 use Rattle.amd64_form.specs.Inst.{IsInst}
-use Rattle.amd64_form.specs.Encoding.{rex, encoding, BeginsWithInst, IsPartOfInst}
+use Rattle.amd64_form.specs.Encoding.{encoding, BeginsWithInst, IsPartOfInst}
 use Rattle.amd64_form.specs.Form.{reading}
+use Rattle.amd64_form.proofs.Sizes.{some_bytes}
 use Rattle.amd64_form.proofs.Laws.{is_found, is_short, is_unknown, standing_is_read}
 use Rattle.amd64_machine.specs.declared.layout.TheConstants.{CODE_BEGIN}
 use Rattle.amd64_machine.specs.Fetch.{Fetched, Nothing, Here, here, fetch, StandsAt, FetchesCode}
@@ -63,15 +62,6 @@ decoded_is_fetched code at answer ge lt d =
     ap (here at) (decoded_is_read _ answer (subst (λ b. Decodes b answer) (tail_is code (at - CODE_BEGIN)) d)) ∙ sym (fetch_within code at ge lt)
 
 -- ---- the law
-
-some_bytes : (i : Inst) → 0 < length (encoding i)
-some_bytes (Move to from) = omega arith
-some_bytes (LoadConstant to value) = omega arith
-some_bytes (Add to from) = omega arith
-some_bytes (AddConstant to value) = omega arith
-some_bytes (Push r) = omega (arith, length-append (if nat_lt (number r) 8 then [] else rex 0 0 0 1 ∷ []) ((0x50 + low r) ∷ []))
-some_bytes (Pop r) = omega (arith, length-append (if nat_lt (number r) 8 then [] else rex 0 0 0 1 ∷ []) ((0x58 + low r) ∷ []))
-some_bytes Syscall = omega arith
 
 standing_is_within : (code : List ℕ) (at : ℕ) (i : Inst) (s : StandsAt code at i) → at - CODE_BEGIN < length code
 standing_is_within code at i (ge, rest, valid, e) =

@@ -2,3 +2,5 @@
 pub mod Fetching
 pub mod Runs
 pub mod Start
+pub mod Acts
+pub mod Division

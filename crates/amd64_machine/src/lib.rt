@@ -13,12 +13,14 @@
 //   layout.rt     where the regions begin and how large they are
 //   regions.rt    words at addresses
 //   integer.rt    integers in words
+//   arithmetic.rt results of operations, their flags, and conditions
 //   state.rt      the flags, and the state between two instructions
 //   perform.rt    what each instruction does
 //   machine.rt    `Machine`: start, step, run
 //   result.rt     the line of a result
 #![tactic(auto)]
 
+mod arithmetic;
 mod integer;
 pub mod layout;
 pub mod machine;
@@ -26,8 +28,6 @@ mod perform;
 mod regions;
 pub mod result;
 pub mod state;
-#[cfg(test)]
-mod tests;
 
 pub use integer::integers_in_words;
 pub use machine::{End, Machine, fetches_code};

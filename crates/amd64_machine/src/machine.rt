@@ -4,9 +4,9 @@ ghost use Rattle.std.specs.Io.KnownBytes.{Appends};
 ghost use Rattle.hipe_edge.specs.Bytes.{AppendsPrefix};
 ghost use Rattle.hipe_edge.specs.Counts.{Rises};
 ghost use Rattle.amd64_machine.specs.Fetch.{fetch, FetchesCode};
-ghost use Rattle.amd64_machine.specs.Machine.{machine_step, machine_run, start_with, start};
+ghost use Rattle.amd64_machine.specs.Machine.{act, machine_step, machine_run, start_with, start};
 ghost use Rattle.amd64_machine.specs.Result.{end_of, answer_of, HasReturned, result_line};
-ghost use Rattle.amd64_machine.specs.Seen.{fetched_seen, code_of, state_of};
+ghost use Rattle.amd64_machine.specs.Seen.{fetched_seen, seen, registers_seen, code_of, state_of};
 
 use super::layout::{CODE_BEGIN, HEAP_END, STACK_BEGIN, STACK_WORDS};
 use super::perform::perform;
@@ -58,6 +58,17 @@ fn fetched(code: &[u8], at: u64) -> Option<(Inst, u64)>
     }
 }
 
+// Does the instruction at the address where the state is, and answers how the run ended by it.
+fn advance(core: &mut Core, code: &[u8]) -> Option<Ended>
+    ensures { seen core.new result ≡ act code.now core.old.at (fetch code.now core.old.at)
+        (registers_seen core.old.registers) core.old.flags core.old.stack.items }
+{
+    match fetched(code, core.at) {
+        Some((inst, next)) => perform(core, code, inst, next),
+        None => Some(Ended::MachineFault(core.at)),
+    }
+}
+
 // A machine at the first byte of the code, with a stack of this many words.
 #[tactic(auto, unfolding(crate::specs::Machine::zeros))]
 fn with_stack(alloc: Global, code: Vec<u8>, words: usize) -> Result<Machine, Memory>
@@ -105,10 +116,7 @@ impl Machine {
         ensures out { out.new ≡ out.old }
     {
         if self.ended.is_none() {
-            self.ended = match fetched(&self.code, self.core.at) {
-                Some((inst, next)) => perform(&mut self.core, &self.code, inst, next),
-                None => Some(Ended::MachineFault(self.core.at)),
-            };
+            self.ended = advance(&mut self.core, &self.code);
         }
         self.end()
     }

@@ -1,7 +1,7 @@
 // The state between two instructions.
 ghost use Rattle.std.specs.Prelude.{◌≡◌, ◌+◌, ◌≤◌, ◌<◌, ◌^◌};
 ghost use Rattle.amd64_form.specs.Reg.{number};
-ghost use Rattle.amd64_machine.specs.Machine.{word_in, flags_of_sum};
+ghost use Rattle.amd64_machine.specs.Machine.{word_in};
 ghost use Rattle.amd64_machine.specs.Machine.{put as registers_with};
 ghost use Rattle.amd64_machine.specs.Seen.{registers_seen};
 
@@ -28,20 +28,6 @@ impl Flags {
         sign: None,
         overflow: None,
     };
-
-    // The flags after `add` of these two words.
-    pub(crate) fn of_sum(a: u64, b: u64) -> Flags
-        ensures { result ≡ flags_of_sum a b }
-    {
-        let (sum, carry) = a.overflowing_add(b);
-        let (_, overflow) = a.cast_signed().overflowing_add(b.cast_signed());
-        Flags {
-            carry: Some(carry),
-            zero: Some(sum == 0),
-            sign: Some(sum >= 1 << 63),
-            overflow: Some(overflow),
-        }
-    }
 }
 
 // The sixteen registers, by number.

@@ -1,15 +1,15 @@
 -- What the bytes of a sum's code mean: the machine ends with the plain sum.
 use Rattle.std.proofs.Common.{◌≡◌, ℕ, ◌+◌, ◌-◌, ◌*◌, ◌^◌, ◌<◌, ◌≤◌, ℤ, pos, negsuc, List, [], ◌∷◌, ◌++◌, length, drop, refl, sym, ap, ◌∙◌, subst, arith, rules, append_assoc, length-append, append-nil}
-use Rattle.std.specs.Prelude.{FitsSigned, Bool, true, false, nat_lt, if◌then◌else◌}
+use Rattle.std.specs.Prelude.{FitsSigned}
 use Rattle.std.specs.Int.{w32}
 use Rattle.std.proofs.Math.Seq.{drop-append_seam}
 use Rattle.std.proofs.lemmas.List.{length-replicate}
 use Rattle.amd64_form.specs.declared.inst.Inst.{Inst}
-use Rattle.amd64_form.specs.declared.inst.Inst.TheVariants.{Move, LoadConstant, Add, AddConstant, Push, Pop, Syscall}
+use Rattle.amd64_form.specs.declared.inst.Inst.TheVariants.{Push}
 use Rattle.amd64_form.specs.declared.reg.Reg.TheVariants.{Rax}
-use Rattle.amd64_form.specs.Reg.{number, low}
 use Rattle.amd64_form.specs.Inst.{IsInst}
-use Rattle.amd64_form.specs.Encoding.{rex, encoding}
+use Rattle.amd64_form.specs.Encoding.{encoding}
+use Rattle.amd64_form.proofs.Sizes.{encoding_size}
 use Rattle.amd64_machine.specs.declared.layout.TheConstants.{CODE_BEGIN, STACK_BEGIN, STACK_WORDS}
 use Rattle.amd64_machine.specs.Integer.{IsInteger, word_of}
 use Rattle.amd64_machine.specs.Machine.{Over, Returned, start, zeros}
@@ -80,19 +80,6 @@ are_insts : (e : Sum) → AreInsts e
 are_insts = ind-Sum AreInsts (λ x y is. subst (λ z. AreInsts (roll-Sum z)) is (insts_step y))
 
 -- ---- its length
-
-short_size : (opcode : ℕ) (b : Bool) (n : ℕ) → length ((if b then [] else rex 0 0 0 1 ∷ []) ++ (opcode + n) ∷ []) ≤ 10
-short_size opcode true n = omega arith
-short_size opcode false n = omega arith
-
-encoding_size : (i : Inst) → length (encoding i) ≤ 10
-encoding_size (Move to from) = omega arith
-encoding_size (LoadConstant to value) = omega arith
-encoding_size (Add to from) = omega arith
-encoding_size (AddConstant to value) = omega arith
-encoding_size (Push r) = short_size 0x50 (nat_lt (number r) 8) (low r)
-encoding_size (Pop r) = short_size 0x58 (nat_lt (number r) 8) (low r)
-encoding_size Syscall = omega arith
 
 bytes_size : (is : Code) → length (bytes_of is) ≤ 10 * length is
 bytes_size [] = omega arith

@@ -11,7 +11,8 @@ use Rattle.amd64_machine.specs.declared.layout.TheConstants.{CODE_BEGIN, STACK_B
 use Rattle.amd64_machine.specs.declared.state.Flags.{Flags}
 use Rattle.amd64_machine.specs.Fetch.{Here, fetch}
 use Rattle.amd64_machine.specs.Integer.{IsInteger, word_of, integer_at}
-use Rattle.amd64_machine.specs.Machine.{Registers, State, On, Over, Returned, put, pushed, popped, returned, act, wrap, below, machine_run}
+use Rattle.amd64_machine.specs.Machine.{Registers, State, On, Over, Returned, put, pushed, popped, returned, act, below, machine_run}
+use Rattle.amd64_machine.specs.Arithmetic.{wrap}
 use Rattle.amd64_machine.specs.Regions.{spot, word_at, stack_with, read_at, written_at, InStack}
 use Rattle.core_reader.specs.declared.sum.Sum.{Sum, roll-Sum}
 use Rattle.core_reader.specs.declared.sum.Sum.TheOpen.{Sum-F}

@@ -2,7 +2,8 @@
 use Rattle.std.specs.Prelude.{◌≡◌, ◌≤◌, ℕ, ℤ, negsuc, List, [], ◌∷◌, ◌++◌}
 use Rattle.std.specs.List.{flat_map}
 use Rattle.amd64_form.specs.declared.inst.Inst.{Inst}
-use Rattle.amd64_form.specs.declared.inst.Inst.TheVariants.{Move, LoadConstant, Add, AddConstant, Push, Pop, Syscall}
+use Rattle.amd64_form.specs.declared.inst.Inst.TheVariants.{Move, LoadConstant, Binary, BinaryConstant, Push, Pop, Syscall}
+use Rattle.amd64_form.specs.declared.operation.BinaryOp.TheVariants.{Add}
 use Rattle.amd64_form.specs.declared.reg.Reg.TheVariants.{Rax, Rcx, Rdi}
 use Rattle.amd64_form.specs.Encoding.{encoding}
 use Rattle.amd64_machine.specs.Integer.{word_of}
@@ -17,7 +18,7 @@ Code = List Inst
 
 -- adds the word on top of the stack to rax: each word has 15 in its low bits, and so has the sum's
 abbrev pub addition : Code
-addition = Pop Rcx ∷ Add Rax Rcx ∷ AddConstant Rax (negsuc 14) ∷ []
+addition = Pop Rcx ∷ Binary Add Rax Rcx ∷ BinaryConstant Add Rax (negsuc 14) ∷ []
 
 abbrev pub evaluation_at : Sum-F Code → Code
 evaluation_at (Sum-F.Int n) = LoadConstant Rax (word_of n) ∷ []

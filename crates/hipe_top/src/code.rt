@@ -6,7 +6,7 @@ ghost use Rattle.core_reader.specs.Sums.{HasSmallIntegers, count_of, value};
 ghost use Rattle.hipe_top.specs.Code.{addition, evaluation, ending, bytes_of, code_for, EndsWith};
 
 use super::limits::MOST_INTEGERS;
-use amd64_form::{Inst, Reg, encode};
+use amd64_form::{BinaryOp, Inst, Reg, encode};
 use core_reader::Sum;
 use hipe_edge::Memory;
 use std::alloc::Global;
@@ -31,12 +31,14 @@ fn add(code: &mut Vec<u8>) -> Result<(), Memory>
     ensures { OnOk result (code.new.items ≡ code.old.items ++ bytes_of addition) }
 {
     put(Inst::Pop(Reg::Rcx), code)?;
-    let sum = Inst::Add {
+    let sum = Inst::Binary {
+        op: BinaryOp::Add,
         to: Reg::Rax,
         from: Reg::Rcx,
     };
     put(sum, code)?;
-    let tag = Inst::AddConstant {
+    let tag = Inst::BinaryConstant {
+        op: BinaryOp::Add,
         to: Reg::Rax,
         value: -15,
     };

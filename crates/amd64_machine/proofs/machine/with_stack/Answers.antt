@@ -1,6 +1,7 @@
 use Rattle.std.proofs.Common.{◌≡◌, ◌∙◌, ap, ◌+◌, ◌*◌, replicate, rules}
 use Rattle.amd64_form.specs.declared.reg.Reg.TheVariants.{Rsp, R15}
-use Rattle.amd64_machine.specs.Machine.{On, no_flags, put}
+use Rattle.amd64_machine.specs.Arithmetic.{no_flags}
+use Rattle.amd64_machine.specs.Machine.{On, put}
 use Rattle.amd64_machine.proofs.Start.{zero_registers, zeros_are}
 use Rattle.amd64_machine.proofs.machine.with_stack.Goals as goal
 
