@@ -1,0 +1,6 @@
+-- What contracts say of the grammar.
+pub mod Examples
+pub mod Grammar
+pub mod Language
+pub mod Leave
+pub mod Trees
