@@ -1,1 +1,7 @@
-mod Runs
+mod Cells
+mod Constants
+mod Elements
+mod Examples
+mod Expressions
+mod Patterns
+mod Steps

@@ -232,10 +232,10 @@ rest x c t ss vs = if closes c t then Go ss vs [] else comma x c t ss vs
 
 abbrev pub cells_first : Term → Kind → Place → Symbols → Values → Move
 cells_first x (Kind.Mark Mark.CloseSquare) p ss vs = Go ss (no_cells x vs) []
-cells_first x t p ss vs = term (deeper x) t p (Symbol.Make (Maker.Push (Element.Term x)) ∷ Symbol.CellsRest x ∷ ss) vs
+cells_first x t p ss vs = term (deeper x) t p (Symbol.Make (Maker.Push (Element.Term (deeper x))) ∷ Symbol.CellsRest x ∷ ss) vs
 
 abbrev pub cells_rest : Term → Kind → Symbols → Values → Move
-cells_rest x (Kind.Mark Mark.Comma) ss vs = Go (Symbol.Item (Element.Term (deeper x)) ∷ Symbol.Make (Maker.Push (Element.Term x)) ∷ Symbol.CellsRest x ∷ ss) vs []
+cells_rest x (Kind.Mark Mark.Comma) ss vs = Go (Symbol.Item (Element.Term (deeper x)) ∷ Symbol.Make (Maker.Push (Element.Term (deeper x))) ∷ Symbol.CellsRest x ∷ ss) vs []
 cells_rest x (Kind.Mark Mark.Bar) ss vs = Go (Symbol.Tail x ∷ Symbol.Wants Mark.CloseSquare ∷ ss) vs []
 cells_rest x (Kind.Mark Mark.CloseSquare) ss vs = Go ss (all_cells x vs) []
 cells_rest x _ ss vs = No false
@@ -265,9 +265,15 @@ tail x (Kind.Mark Mark.OpenSquare) p ss vs = tail_list x p ss vs
 tail x (Kind.Mark Mark.OpenRound) p ss vs = tail_open x ss vs
 tail x t p ss vs = other_tail x t p (Symbol.Make (Maker.Join x) ∷ ss) vs
 
+-- a pattern without its annotation makes one list with the elements before it at once, a variable or an alias once it is read
+abbrev pub pattern_tail_inside : ℕ → Kind → Place → Symbols → Values → Move
+pattern_tail_inside k (Kind.Variable x) p ss vs = pattern_inside k (Kind.Variable x) p (Symbol.Make (Maker.Join (Term.Pattern k)) ∷ ss) vs
+pattern_tail_inside k (Kind.Mark Mark.OpenRound) p ss vs = pattern_inside k (Kind.Mark Mark.OpenRound) p (Symbol.Make (Maker.Join (Term.Pattern k)) ∷ ss) vs
+pattern_tail_inside k t p ss vs = plain_pattern k t p (Symbol.Make (Maker.Join (Term.Pattern k)) ∷ annotation ss) vs
+
 abbrev pub other_tail_inside : Term → Kind → Place → Symbols → Values → Move
 other_tail_inside (Term.Expression k) t p ss vs = bare_expression k t p (Symbol.Make (Maker.Join (Term.Expression k)) ∷ annotation ss) vs
-other_tail_inside (Term.Pattern k) t p ss vs = pattern_inside k t p (Symbol.Make (Maker.Join (Term.Pattern k)) ∷ ss) vs
+other_tail_inside (Term.Pattern k) t p ss vs = pattern_tail_inside k t p ss vs
 other_tail_inside (Term.Constant k) t p ss vs = No true
 
 abbrev pub tail_inside : Term → Kind → Place → Symbols → Values → Move
@@ -276,7 +282,7 @@ tail_inside x t p ss vs = other_tail_inside x t p ss vs
 
 abbrev pub tail_first : Term → Kind → Place → Symbols → Values → Move
 tail_first x (Kind.Mark Mark.CloseSquare) p ss vs = Go ss (all_cells x vs) []
-tail_first x t p ss vs = term (deeper x) t p (Symbol.Make (Maker.Push (Element.Term x)) ∷ Symbol.CellsRest x ∷ ss) vs
+tail_first x t p ss vs = term (deeper x) t p (Symbol.Make (Maker.Push (Element.Term (deeper x))) ∷ Symbol.CellsRest x ∷ ss) vs
 
 -- variables
 
