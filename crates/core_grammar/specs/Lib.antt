@@ -2,5 +2,6 @@
 pub mod Examples
 pub mod Grammar
 pub mod Language
+pub mod Laws
 pub mod Leave
 pub mod Trees

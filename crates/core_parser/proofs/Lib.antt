@@ -3,5 +3,7 @@ mod Constants
 mod Elements
 mod Examples
 mod Expressions
+mod Meaning
+mod Modules
 mod Patterns
 mod Steps

@@ -7,8 +7,10 @@
 //   symbol.rt   symbols
 //   value.rt    values
 //   moved.rt    what a terminal did
+//   law.rt      what the machine proves of the grammar
 #![tactic(auto)]
 
+pub mod law;
 pub mod moved;
 pub mod symbol;
 pub mod value;
