@@ -68,7 +68,7 @@ item_is_bare : (k : ℕ) (ss : Symbols) (vs : Values) (t : Kind) (p : Place) →
 item_is_bare k ss vs (Kind.Mark Mark.OpenRound) p h = cc
 item_is_bare k ss vs _ p h = refl
 
-tail_inside_is_tail : (k : ℕ) (ss : Symbols) (vs : Values) (t : Kind) (p : Place) → opens_bare t ≡ true → move (Symbol.TailInside (Term.Expression k) ∷ ss) vs t p ≡ move (Symbol.Tail (Term.Expression k) ∷ annotation ss) vs t p
+tail_inside_is_tail : (k : ℕ) (ss : Symbols) (vs : Values) (t : Kind) (p : Place) → opens_bare t ≡ true → move (Symbol.ExpressionTailInside k ∷ ss) vs t p ≡ move (Symbol.Tail (Term.Expression k) ∷ annotation ss) vs t p
 tail_inside_is_tail k ss vs (Kind.Mark Mark.OpenRound) p h = cc
 tail_inside_is_tail k ss vs _ p h = refl
 
@@ -119,7 +119,7 @@ module _ (ok : Leave) (z : Place) where
   annotated_is_read k e ts us ws o d n = (refl,
       (λ ss vs c. d.1 (annotation ss) vs (annotation_calm ok z us ws n) ∙ annotation_runs ok z us ws n ss (Value.Expression e ∷ vs)),
       (λ es q p ss vs c.
-          same ok z opens_bare (Symbol.TailInside (Term.Expression k) ∷ ss) (Symbol.Tail (Term.Expression k) ∷ annotation ss) (Value.Expressions es ∷ Value.At q ∷ Value.At p ∷ vs) (Value.Expressions es ∷ Value.At q ∷ Value.At p ∷ vs) (tail_inside_is_tail k ss (Value.Expressions es ∷ Value.At q ∷ Value.At p ∷ vs)) ts d.0
+          same ok z opens_bare (Symbol.ExpressionTailInside k ∷ ss) (Symbol.Tail (Term.Expression k) ∷ annotation ss) (Value.Expressions es ∷ Value.At q ∷ Value.At p ∷ vs) (Value.Expressions es ∷ Value.At q ∷ Value.At p ∷ vs) (tail_inside_is_tail k ss (Value.Expressions es ∷ Value.At q ∷ Value.At p ∷ vs)) ts d.0
           ∙ d.2 es q p (annotation ss) vs (annotation_calm ok z us ws n)
           ∙ annotation_runs ok z us ws n ss (Value.Expression (cells p es e) ∷ vs)))
 

@@ -5,5 +5,6 @@ mod Examples
 mod Expressions
 mod Meaning
 mod Modules
+mod Sound
 mod Patterns
 mod Steps

@@ -73,7 +73,8 @@ module _ (ok : Leave) where
     cells_more : {x : Term} {ts us ws : List Terminal} (p : Place) → Sat (Symbol.Item (Element.Term (deeper x))) ts us → Sat (Symbol.CellsRest x) us ws → Sat (Symbol.CellsRest x) (mark Mark.Comma p ∷ ts) ws
     cells_tail : {x : Term} {ts us : List Terminal} (p q : Place) → Sat (Symbol.Item (Element.Term x)) ts (mark Mark.CloseSquare q ∷ us) → Sat (Symbol.CellsRest x) (mark Mark.Bar p ∷ ts) us
     tail : {x : Term} {ts us : List Terminal} → Sat (Symbol.Item (Element.Term x)) ts us → Sat (Symbol.Tail x) ts us
-    tail_inside : {x : Term} {ts us : List Terminal} → ((o : Place) → Sat (Symbol.Item (Element.Term x)) (mark Mark.OpenRound o ∷ ts) us) → Sat (Symbol.TailInside x) ts us
+    expression_tail_inside : {k : ℕ} {e : Expr} {ts us : List Terminal} → ((o : Place) → G.ExpressionOf ok k e (mark Mark.OpenRound o ∷ ts) us) → Sat (Symbol.ExpressionTailInside k) ts us
+    pattern_tail_inside : {k : ℕ} {f : Pattern} {ts us : List Terminal} → ((o : Place) → G.PatternOf ok k f (mark Mark.OpenRound o ∷ ts) us) → Sat (Symbol.PatternTailInside k) ts us
     tail_first : {x : Term} {ts us : List Terminal} → Sat (Symbol.CellsFirst x) ts us → Sat (Symbol.TailFirst x) ts us
     variables : {xs : List Var} {ts us : List Terminal} → G.VariablesOf ok xs ts us → Sat Symbol.Variables ts us
     -- patterns

@@ -71,7 +71,7 @@ inside_is_plain k ss vs (Kind.Variable x) p h = cc
 inside_is_plain k ss vs (Kind.Mark Mark.OpenRound) p h = cc
 inside_is_plain k ss vs _ p h = refl
 
-tail_inside_is_tail : (k : ℕ) (ss : Symbols) (vs : Values) (t : Kind) (p : Place) → opens_plain t ≡ true → move (Symbol.TailInside (Term.Pattern k) ∷ ss) vs t p ≡ move (Symbol.Tail (Term.Pattern k) ∷ annotation ss) vs t p
+tail_inside_is_tail : (k : ℕ) (ss : Symbols) (vs : Values) (t : Kind) (p : Place) → opens_plain t ≡ true → move (Symbol.PatternTailInside k ∷ ss) vs t p ≡ move (Symbol.Tail (Term.Pattern k) ∷ annotation ss) vs t p
 tail_inside_is_tail k ss vs (Kind.Variable x) p h = cc
 tail_inside_is_tail k ss vs (Kind.Mark Mark.OpenRound) p h = cc
 tail_inside_is_tail k ss vs _ p h = refl
@@ -166,7 +166,7 @@ module _ (ok : Leave) (z : Place) where
   tail_run k f ts us (bare (alias i x r h d)) es q p ss vs c = joined_run k f ts us (bare (alias i x r h d)) es q p ss vs c
   tail_run k f ts us (bare (annotated_alias i x o r h n d)) es q p ss vs c = joined_run k f ts us (bare (annotated_alias i x o r h n d)) es q p ss vs c
   tail_run k f ts us (noted {ts = xs} {us = ys} o (plain d) n) es q p ss vs c =
-      same ok z opens_plain (Symbol.TailInside (Term.Pattern k) ∷ ss) (Symbol.Tail (Term.Pattern k) ∷ annotation ss) (Value.Patterns es ∷ Value.At q ∷ Value.At p ∷ vs) (Value.Patterns es ∷ Value.At q ∷ Value.At p ∷ vs) (tail_inside_is_tail k ss (Value.Patterns es ∷ Value.At q ∷ Value.At p ∷ vs)) xs d.0
+      same ok z opens_plain (Symbol.PatternTailInside k ∷ ss) (Symbol.Tail (Term.Pattern k) ∷ annotation ss) (Value.Patterns es ∷ Value.At q ∷ Value.At p ∷ vs) (Value.Patterns es ∷ Value.At q ∷ Value.At p ∷ vs) (tail_inside_is_tail k ss (Value.Patterns es ∷ Value.At q ∷ Value.At p ∷ vs)) xs d.0
       ∙ d.2 es q p (annotation ss) vs (annotation_calm ys us n)
       ∙ annotation_runs ok z ys us n ss (Value.Pattern (pattern_cells p es f) ∷ vs)
   tail_run k f ts us (noted o (variable x h) n) es q p ss vs c = joined_run k f ts us (noted o (variable x h) n) es q p ss vs c

@@ -256,8 +256,8 @@ other_tail (Term.Pattern k) t p ss vs = bare_pattern k t p ss vs
 other_tail (Term.Constant k) t p ss vs = constant k t p ss vs
 
 abbrev pub tail_open : Term → Symbols → Values → Move
-tail_open (Term.Expression k) ss vs = Go (Symbol.TailInside (Term.Expression k) ∷ ss) vs []
-tail_open (Term.Pattern k) ss vs = Go (Symbol.TailInside (Term.Pattern k) ∷ ss) vs []
+tail_open (Term.Expression k) ss vs = Go (Symbol.ExpressionTailInside k ∷ ss) vs []
+tail_open (Term.Pattern k) ss vs = Go (Symbol.PatternTailInside k ∷ ss) vs []
 tail_open (Term.Constant k) ss vs = No true
 
 abbrev pub tail : Term → Kind → Place → Symbols → Values → Move
@@ -265,20 +265,18 @@ tail x (Kind.Mark Mark.OpenSquare) p ss vs = tail_list x p ss vs
 tail x (Kind.Mark Mark.OpenRound) p ss vs = tail_open x ss vs
 tail x t p ss vs = other_tail x t p (Symbol.Make (Maker.Join x) ∷ ss) vs
 
--- a pattern without its annotation makes one list with the elements before it at once, a variable or an alias once it is read
+-- a tail behind its `(`. What isn't a variable or an alias makes one list with the elements before it at once, before its
+-- annotation; a variable or an alias does once it is read.
+
+abbrev pub expression_tail_inside : ℕ → Kind → Place → Symbols → Values → Move
+expression_tail_inside k (Kind.Mark Mark.OpenSquare) p ss vs = tail_list (Term.Expression k) p (annotation ss) vs
+expression_tail_inside k t p ss vs = bare_expression k t p (Symbol.Make (Maker.Join (Term.Expression k)) ∷ annotation ss) vs
+
 abbrev pub pattern_tail_inside : ℕ → Kind → Place → Symbols → Values → Move
+pattern_tail_inside k (Kind.Mark Mark.OpenSquare) p ss vs = tail_list (Term.Pattern k) p (annotation ss) vs
 pattern_tail_inside k (Kind.Variable x) p ss vs = pattern_inside k (Kind.Variable x) p (Symbol.Make (Maker.Join (Term.Pattern k)) ∷ ss) vs
 pattern_tail_inside k (Kind.Mark Mark.OpenRound) p ss vs = pattern_inside k (Kind.Mark Mark.OpenRound) p (Symbol.Make (Maker.Join (Term.Pattern k)) ∷ ss) vs
 pattern_tail_inside k t p ss vs = plain_pattern k t p (Symbol.Make (Maker.Join (Term.Pattern k)) ∷ annotation ss) vs
-
-abbrev pub other_tail_inside : Term → Kind → Place → Symbols → Values → Move
-other_tail_inside (Term.Expression k) t p ss vs = bare_expression k t p (Symbol.Make (Maker.Join (Term.Expression k)) ∷ annotation ss) vs
-other_tail_inside (Term.Pattern k) t p ss vs = pattern_tail_inside k t p ss vs
-other_tail_inside (Term.Constant k) t p ss vs = No true
-
-abbrev pub tail_inside : Term → Kind → Place → Symbols → Values → Move
-tail_inside x (Kind.Mark Mark.OpenSquare) p ss vs = tail_list x p (annotation ss) vs
-tail_inside x t p ss vs = other_tail_inside x t p ss vs
 
 abbrev pub tail_first : Term → Kind → Place → Symbols → Values → Move
 tail_first x (Kind.Mark Mark.CloseSquare) p ss vs = Go ss (all_cells x vs) []
@@ -432,7 +430,8 @@ move (Symbol.Rest x c ∷ ss) vs t p = rest x c t ss vs
 move (Symbol.CellsFirst x ∷ ss) vs t p = cells_first x t p ss vs
 move (Symbol.CellsRest x ∷ ss) vs t p = cells_rest x t ss vs
 move (Symbol.Tail x ∷ ss) vs t p = tail x t p ss vs
-move (Symbol.TailInside x ∷ ss) vs t p = tail_inside x t p ss vs
+move (Symbol.ExpressionTailInside k ∷ ss) vs t p = expression_tail_inside k t p ss vs
+move (Symbol.PatternTailInside k ∷ ss) vs t p = pattern_tail_inside k t p ss vs
 move (Symbol.TailFirst x ∷ ss) vs t p = tail_first x t p ss vs
 move (Symbol.Variables ∷ ss) vs t p = variables t p ss vs
 move (Symbol.Pattern k ∷ ss) vs t p = pattern k t p ss vs

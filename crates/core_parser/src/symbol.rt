@@ -122,8 +122,9 @@ pub enum Symbol {
     CellsRest(Term),
     /// The tail of a list of this level.
     Tail(Term),
-    /// The same behind its `(`.
-    TailInside(Term),
+    /// The same behind its `(`, of a list of expressions and of one of patterns.
+    ExpressionTailInside(u32),
+    PatternTailInside(u32),
     /// What follows the `[` of a list that is a tail.
     TailFirst(Term),
     /// Variables: one, or none or more in `<..>`.
