@@ -1,3 +1,4 @@
+mod Backs
 mod Cells
 mod Constants
 mod Elements

@@ -1,5 +1,5 @@
--- Where a move leads, the grammar leads.
-use Rattle.std.proofs.Common.{◌≡◌, ℕ, ℤ, pos, ◌+◌, ◌==◌, List, [], ◌∷◌, ◌++◌, Bool, true, false, ◌&&◌, if◌then◌else◌, refl, ap, sym, ◌∙◌, subst, get_or}
+-- Where a move leads, the grammar leads: clauses, definitions, calls, and every symbol.
+use Rattle.std.proofs.Common.{◌≡◌, ℕ, ℤ, pos, ◌+◌, ◌==◌, List, [], ◌∷◌, ◌++◌, Bool, true, false, ◌&&◌, if◌then◌else◌, refl, ap, sym, ◌∙◌, subst}
 use Rattle.std.proofs.lemmas.Bool.{eqb-true}
 use Rattle.hipe_terms.specs.declared.place.Place.{Place}
 use Rattle.core_ast.specs.declared.pattern.Var.{Var}
@@ -20,501 +20,254 @@ use Rattle.core_parser.specs.declared.symbol.Part.{Part}
 use Rattle.core_parser.specs.declared.symbol.Symbol.{Symbol}
 use Rattle.core_parser.specs.declared.symbol.Term.{Term}
 use Rattle.core_parser.specs.Values.{Values, literal, variable_pattern, made}
-use Rattle.core_parser.specs.Machine.{Symbols, Move, Go, No, move, all_ok, code, closes, also, deeper, annotation, annotation_list, guarded, when_guarded, one_when_guarded, alias_of, arguments, argument_pushed, defined}
+use Rattle.core_parser.specs.Machine.{Symbols, Move, Go, No, move, all_ok, code, also, annotation, annotation_list, guarded, when_guarded, one_when_guarded, alias_of, argument_pushed, defined}
 use Rattle.core_parser.specs.Machine as M
-use Rattle.core_parser.proofs.Steps.{closing}
-use Rattle.core_parser.proofs.Meaning.{Sat, wants, make, bare_module, bare_name, bare_atom, bare_operand, bare_variable, bare_constant, bare_fun, bare_expression, module', name, atom, operand, variable, constant, fun, expression, no_arity, slash, arity, item_variable, item_export, item_attribute, item_expression, item_pattern, item_constant, first_none, first_some, rest_none, rest_more, cells_none, cells_some, cells_end, cells_more, cells_tail, tail, expression_tail_inside, pattern_tail_inside, tail_first, variables, pattern', pattern_inside, pattern_inside_variable, alias_name, no_alias, equals, clause, clause_inside, clause_inside_variable, clause_twice_inside, clause_twice_inside_variable, clause_twice_inside_annotated, clause_middle, clauses_none, clauses_some, definitions, module_end, arguments_first, argument', arguments_none, arguments_some, Holds, done, on, of_variable, expressions_of, all_expressions, patterns_of, all_patterns, constants_of, all_constants, variables_of, all_variables, exports_of, all_exports, attributes_of, all_attributes, expression_list, found_expression, pattern_list, found_pattern, constant_list, found_constant, annotation_list_of, annotation_of, held_annotation, arguments_of, HeldArguments, held_arguments, guarded_of, held_guarded}
-
--- words and signs by their codes
-
-marks : List Mark
-marks =
-    Mark.After ∷ Mark.Apply ∷ Mark.Attributes ∷ Mark.Call ∷ Mark.Case ∷ Mark.Catch ∷ Mark.Do ∷ Mark.End ∷ Mark.Fun ∷ Mark.In ∷ Mark.Let ∷ Mark.Letrec
-    ∷ Mark.Module ∷ Mark.Of ∷ Mark.Primop ∷ Mark.Receive ∷ Mark.Timeout ∷ Mark.Try ∷ Mark.When ∷ Mark.OpenRound ∷ Mark.CloseRound ∷ Mark.OpenBrace
-    ∷ Mark.CloseBrace ∷ Mark.OpenSquare ∷ Mark.CloseSquare ∷ Mark.Less ∷ Mark.Greater ∷ Mark.Comma ∷ Mark.Equals ∷ Mark.Slash ∷ Mark.Colon ∷ Mark.Bar
-    ∷ Mark.Hash ∷ Mark.Tilde ∷ Mark.Arrow ∷ Mark.Dash ∷ []
-
-decoded : (m : Mark) → get_or marks (code m) Mark.After ≡ m
-unfolding marks
-decoded Mark.After = refl
-decoded Mark.Apply = refl
-decoded Mark.Attributes = refl
-decoded Mark.Call = refl
-decoded Mark.Case = refl
-decoded Mark.Catch = refl
-decoded Mark.Do = refl
-decoded Mark.End = refl
-decoded Mark.Fun = refl
-decoded Mark.In = refl
-decoded Mark.Let = refl
-decoded Mark.Letrec = refl
-decoded Mark.Module = refl
-decoded Mark.Of = refl
-decoded Mark.Primop = refl
-decoded Mark.Receive = refl
-decoded Mark.Timeout = refl
-decoded Mark.Try = refl
-decoded Mark.When = refl
-decoded Mark.OpenRound = refl
-decoded Mark.CloseRound = refl
-decoded Mark.OpenBrace = refl
-decoded Mark.CloseBrace = refl
-decoded Mark.OpenSquare = refl
-decoded Mark.CloseSquare = refl
-decoded Mark.Less = refl
-decoded Mark.Greater = refl
-decoded Mark.Comma = refl
-decoded Mark.Equals = refl
-decoded Mark.Slash = refl
-decoded Mark.Colon = refl
-decoded Mark.Bar = refl
-decoded Mark.Hash = refl
-decoded Mark.Tilde = refl
-decoded Mark.Arrow = refl
-decoded Mark.Dash = refl
-
-one_code : (m n : Mark) → code m ≡ code n → m ≡ n
-one_code m n h = sym (decoded m) ∙ ap (λ k. get_or marks k Mark.After) h ∙ decoded n
-
--- what closes is what closes
-closes_is : (c : Closer) (t : Kind) → closes c t ≡ true → t ≡ Kind.Mark (closing c)
-closes_is Closer.Round (Kind.Mark Mark.CloseRound) h = refl
-closes_is Closer.Brace (Kind.Mark Mark.CloseBrace) h = refl
-closes_is Closer.Square (Kind.Mark Mark.CloseSquare) h = refl
-closes_is Closer.Angle (Kind.Mark Mark.Greater) h = refl
-closes_is Closer.Round _ h = cc
-closes_is Closer.Brace _ h = cc
-closes_is Closer.Square _ h = cc
-closes_is Closer.Angle _ h = cc
+use Rattle.core_parser.proofs.Meaning.{Sat, wants, make, bare_name, bare_constant, fun, arity, item_constant, pattern', alias_name, no_alias, equals, clause, clause_inside, clause_inside_variable, clause_twice_inside, clause_twice_inside_variable, clause_twice_inside_annotated, clause_middle, clauses_none, clauses_some, definitions, arguments_first, argument', arguments_none, arguments_some, Holds, done, on, of_variable, patterns_of, all_patterns, annotation_list_of, annotation_of, held_annotation, guarded_of, held_guarded}
+use Rattle.core_parser.proofs.Backs.{one_code, Backs, widen, alone, and_parts, after_atom_back, arity_back, constant_back, module_end_back, bare_back, annotated_back, HeldPattern, held_pattern, plain_back, bare_pattern_back, pattern_back, pattern_inside_back, alias_name_back, pattern_inside_variable_back, after_variable_back, item_back, first_back, rest_back, cells_first_back, cells_rest_back, tail_back, tail_first_back, expression_tail_inside_back, pattern_tail_inside_back, variables_back}
 
 module _ (ok : Leave) where
-  -- where a move leads, X held before
-  abbrev pub Backs : Move → Terminal → List Terminal → Type 0 → Type 0
-  Backs (No integer) t ts X = Unit {0}
-  Backs (Go ss vs needs) t ts X = all_ok ok needs (t ∷ ts) ≡ true → Holds ok ss ts → X
+  -- `when`, a guard and a body make a clause with the patterns before them
+  data HeldWhen : ℕ → Symbols → List Terminal → Type 0 where
+    held_when : {k : ℕ} {ss : Symbols} {ts us : List Terminal} (c : Place → List Pattern → Clause) → ((p : Place) (fs : List Pattern) (ws : List Terminal) → G.ClausePatterns ok k p fs ws ts → G.BareClause ok k (c p fs) ws us) → Holds ok ss us → HeldWhen k ss ts
 
-  widen : {X Y : Type 0} (m : Move) (t : Terminal) (ts : List Terminal) → (X → Y) → Backs m t ts X → Backs m t ts Y
-  widen (No integer) t ts f b = tt
-  widen (Go ss vs needs) t ts f b = λ o h. f (b o h)
+  when_of : (k : ℕ) (ss : Symbols) (ts : List Terminal) → Holds ok (when_guarded k ss) ts → HeldWhen k ss ts
+  when_of k ss ts (on {us = us} (wants _ w) h) = elim (guarded_of ok k ss us h) [ held_guarded {g = g} {e = e} r d f i ↦ held_when (λ p fs. clause_at p fs g e) (λ p fs ws c. G.clause w r c d f) i ]
 
-  alone : (b : Bool) → (b && true) ≡ true → b ≡ true
-  alone true h = refl
-  alone false h = h
+  guard_of : (k : ℕ) (w : Place) (ss : Symbols) (ts : List Terminal) → Holds ok (guarded k ss) ts → HeldWhen k ss (mark Mark.When w ∷ ts)
+  guard_of k w ss ts h = when_of k ss (mark Mark.When w ∷ ts) (on (wants Mark.When w) h)
 
-  pub and_parts : (a b : Bool) → (a && b) ≡ true → (a ≡ true) × (b ≡ true)
-  and_parts true b h = (refl, h)
-  and_parts false b h = (h, absurd (let f : ⊥ = cc in f))
+  -- .. and one pattern
+  data HeldOne : ℕ → Symbols → List Terminal → Type 0 where
+    held_one : {k : ℕ} {ss : Symbols} {ts us : List Terminal} (c : Pattern → Clause) → ((f : Pattern) (ws : List Terminal) → G.PatternOf ok (k + 1) f ws ts → G.BareClause ok k (c f) ws us) → Holds ok ss us → HeldOne k ss ts
 
-  -- names
+  one_of_when : (k : ℕ) (ss : Symbols) (ts : List Terminal) → HeldWhen k ss ts → HeldOne k ss ts
+  one_of_when k ss ts (held_when c g h) = held_one (λ f. c f.at (f ∷ [])) (λ f ws d. g f.at (f ∷ []) ws (G.one_pattern d)) h
 
-  atom_back : (t : Kind) (p : Place) (ss : Symbols) (vs : Values) (ts : List Terminal) → Backs (M.bare_atom t ss vs) (token t p) ts (Holds ok (Symbol.Bare Part.Atom ∷ ss) (token t p ∷ ts))
-  atom_back (Kind.Atom a) p ss vs ts = λ o h. on (bare_atom (G.atom p)) h
-  atom_back _ p ss vs ts = tt
+  one_of : (k : ℕ) (ss : Symbols) (ts : List Terminal) → Holds ok (one_when_guarded k ss) ts → HeldOne k ss ts
+  one_of k ss ts (on make h) = one_of_when k ss ts (when_of k ss ts h)
 
-  operand_back : (t : Kind) (p : Place) (ss : Symbols) (vs : Values) (ts : List Terminal) → Backs (M.bare_operand t ss vs) (token t p) ts (Holds ok (Symbol.Bare Part.Operand ∷ ss) (token t p ∷ ts))
-  operand_back (Kind.Atom a) p ss vs ts = λ o h. on (bare_operand (G.atom_operand (G.atom p))) h
-  operand_back (Kind.Variable x) p ss vs ts = λ o h. on (bare_operand (G.operand_variable x p (alone _ o))) h
-  operand_back _ p ss vs ts = tt
+  one_guard_of : (k : ℕ) (w : Place) (ss : Symbols) (ts : List Terminal) → Holds ok (guarded k ss) ts → HeldOne k ss (mark Mark.When w ∷ ts)
+  one_guard_of k w ss ts h = one_of_when k ss (mark Mark.When w ∷ ts) (guard_of k w ss ts h)
 
-  variable_back : (t : Kind) (p : Place) (ss : Symbols) (vs : Values) (ts : List Terminal) → Backs (M.bare_variable t p ss vs) (token t p) ts (Holds ok (Symbol.Bare Part.Variable ∷ ss) (token t p ∷ ts))
-  variable_back (Kind.Variable x) p ss vs ts = λ o h. on (bare_variable {x = variable_at p x} G.variable) h
-  variable_back _ p ss vs ts = tt
+  -- one pattern of a clause that is annotated
+  one_annotated : (k : ℕ) (ss : Symbols) (ts : List Terminal) → HeldOne k (annotation ss) ts → Holds ok (Symbol.ClauseMiddle k ∷ ss) ts
+  one_annotated k ss ts (held_one {us = us} c g h) = elim (annotation_of ok ss us h) [ held_annotation n i ↦ on (clause_middle c (λ f o ws d. G.clause_annotated o (g f ws (G.pattern_bare d)) n)) i ]
 
-  name_symbols_back : (a : List ℕ) (p : Place) (ss : Symbols) (ts : List Terminal) → Holds ok (Symbol.Wants Mark.Slash ∷ Symbol.Arity ∷ ss) ts → Holds ok (Symbol.Bare Part.Name ∷ ss) (token (Kind.Atom a) p ∷ ts)
-  name_symbols_back a p ss ts (on (wants _ q) (on (arity n r) h)) = on (bare_name {f = name_of a n} {p = p} (G.function_name q r)) h
+  middle_when : (k : ℕ) (p : Place) (ss : Symbols) (ts : List Terminal) → Holds ok (guarded k (annotation ss)) ts → Holds ok (Symbol.ClauseMiddle k ∷ ss) (mark Mark.When p ∷ ts)
+  middle_when k p ss ts h = one_annotated k ss (mark Mark.When p ∷ ts) (one_guard_of k p (annotation ss) ts h)
 
-  name_back : (t : Kind) (p : Place) (ss : Symbols) (vs : Values) (ts : List Terminal) → Backs (M.bare_name t p ss vs) (token t p) ts (Holds ok (Symbol.Bare Part.Name ∷ ss) (token t p ∷ ts))
-  name_back (Kind.Atom a) p ss vs ts = λ o h. name_symbols_back a p ss ts h
-  name_back _ p ss vs ts = tt
+  middle_dash : (k : ℕ) (p : Place) (ss : Symbols) (ts : List Terminal) → Holds ok (annotation_list (one_when_guarded k ss)) ts → Holds ok (Symbol.ClauseMiddle k ∷ ss) (mark Mark.Dash p ∷ ts)
+  middle_dash k p ss ts h = elim (annotation_list_of ok p (one_when_guarded k ss) ts h) [ held_annotation {us = us} n i ↦ elim (one_of k ss us i) [ held_one c g j ↦ on (clause_middle c (λ f o ws d. G.clause_bare (g f (mark Mark.OpenRound o ∷ ws) (G.pattern_annotated o d n)))) j ] ]
 
-  slash_back : (p : Place) (ss : Symbols) (ts : List Terminal) → Holds ok (Symbol.Arity ∷ Symbol.Make Maker.Name ∷ ss) ts → Holds ok (Symbol.AfterAtom ∷ ss) (mark Mark.Slash p ∷ ts)
-  slash_back p ss ts (on (arity n q) (on make h)) = on (slash n p q) h
+  clause_middle_back : (k : ℕ) (t : Kind) (p : Place) (ss : Symbols) (vs : Values) (ts : List Terminal) → Backs ok (M.clause_middle k t ss vs) (token t p) ts (Holds ok (Symbol.ClauseMiddle k ∷ ss) (token t p ∷ ts))
+  clause_middle_back k (Kind.Mark Mark.When) p ss vs ts = λ o h. middle_when k p ss ts h
+  clause_middle_back k (Kind.Mark Mark.Dash) p ss vs ts = λ o h. middle_dash k p ss ts h
+  clause_middle_back k _ p ss vs ts = tt
 
-  after_atom_back : (t : Kind) (p : Place) (ss : Symbols) (vs : Values) (ts : List Terminal) (m : Move) → Backs m (token t p) ts (Holds ok ss (token t p ∷ ts)) → Backs (M.after_atom t ss vs m) (token t p) ts (Holds ok (Symbol.AfterAtom ∷ ss) (token t p ∷ ts))
-  after_atom_back (Kind.Mark Mark.Slash) p ss vs ts m b = λ o h. slash_back p ss ts h
-  after_atom_back t p ss vs ts m b = widen m (token t p) ts (λ (h : Holds ok ss (token t p ∷ ts)). on no_arity h) b
+  -- a clause
 
-  arity_back : (t : Kind) (p : Place) (ss : Symbols) (vs : Values) (ts : List Terminal) → Backs (M.arity t ss vs) (token t p) ts (Holds ok (Symbol.Arity ∷ ss) (token t p ∷ ts))
-  arity_back (Kind.Natural n) p ss vs ts = λ o h. on (arity n p) h
-  arity_back _ p ss vs ts = tt
-
-  -- constants
+  clause_open : (k : ℕ) (p : Place) (ss : Symbols) (ts : List Terminal) → Holds ok (Symbol.ClauseInside k ∷ ss) ts → Holds ok (Symbol.Clause k ∷ ss) (mark Mark.OpenRound p ∷ ts)
+  clause_open k p ss ts (on (clause_inside g) h) = on (clause (g p)) h
 
-  constant_square : (k : ℕ) (p : Place) (ss : Symbols) (ts : List Terminal) → Holds ok (Symbol.CellsFirst (Term.Constant k) ∷ ss) ts → ok (part k) (mark Mark.OpenSquare p ∷ ts) ≡ true → Holds ok (Symbol.Bare (Part.Constant k) ∷ ss) (mark Mark.OpenSquare p ∷ ts)
-  constant_square k p ss ts (on {us = us} d h) o = elim (constant_list ok k p ts us o d) [ found_constant c ↦ on (bare_constant c) h ]
+  clause_less : (k : ℕ) (p : Place) (ss : Symbols) (ts : List Terminal) → Holds ok (Symbol.First (Element.Term (Term.Pattern (k + 1))) Closer.Angle ∷ when_guarded k ss) ts → ok (part k) (mark Mark.Less p ∷ ts) ≡ true → Holds ok (Symbol.Clause k ∷ ss) (mark Mark.Less p ∷ ts)
+  clause_less k p ss ts (on {us = us} d h) o = elim (patterns_of ok (k + 1) Closer.Angle ts us d) [ all_patterns {fs = fs} q ps ↦ elim (when_of k ss us h) [ held_when c g i ↦ on (clause (G.clause_bare (g p fs (mark Mark.Less p ∷ ts) (G.value_patterns p q o ps)))) i ] ]
 
-  constant_brace : (k : ℕ) (p : Place) (ss : Symbols) (ts : List Terminal) → Holds ok (Symbol.First (Element.Term (Term.Constant (k + 1))) Closer.Brace ∷ Symbol.Make (Maker.Tuple (Term.Constant k)) ∷ ss) ts → ok (part k) (mark Mark.OpenBrace p ∷ ts) ≡ true → Holds ok (Symbol.Bare (Part.Constant k) ∷ ss) (mark Mark.OpenBrace p ∷ ts)
-  constant_brace k p ss ts (on {us = us} d (on make h)) o = elim (constants_of ok (k + 1) Closer.Brace ts us d) [ all_constants q cs ↦ on (bare_constant (G.constant_tuple p q o cs)) h ]
+  clause_one : (k : ℕ) (ss : Symbols) (ts : List Terminal) → HeldPattern ok (k + 1) (one_when_guarded k ss) ts → Holds ok (Symbol.Clause k ∷ ss) ts
+  clause_one k ss ts (held_pattern {f = f} {us = us} d h) = elim (one_of k ss us h) [ held_one c g i ↦ on (clause (G.clause_bare (g f ts (G.pattern_bare d)))) i ]
 
-  constant_back : (k : ℕ) (t : Kind) (p : Place) (ss : Symbols) (vs : Values) (ts : List Terminal) → Backs (M.constant k t p ss vs) (token t p) ts (Holds ok (Symbol.Bare (Part.Constant k) ∷ ss) (token t p ∷ ts))
-  constant_back k (Kind.Natural n) p ss vs ts = λ o h. on (bare_constant (G.constant_integer p (G.digits n) (alone _ o))) h
-  constant_back k (Kind.Integer n) p ss vs ts = λ o h. on (bare_constant (G.constant_integer p (G.signed_or_character n) (alone _ o))) h
-  constant_back k (Kind.Text s) p ss vs ts = λ o h. on (bare_constant (G.constant_characters s p (alone _ o))) h
-  constant_back k (Kind.Atom a) p ss vs ts = λ o h. on (bare_constant (G.constant_atom a p (alone _ o))) h
-  constant_back k (Kind.Mark Mark.OpenSquare) p ss vs ts = λ o h. constant_square k p ss ts h (alone _ o)
-  constant_back k (Kind.Mark Mark.OpenBrace) p ss vs ts = λ o h. constant_brace k p ss ts h (alone _ o)
-  constant_back k _ p ss vs ts = tt
+  clause_back : (k : ℕ) (t : Kind) (p : Place) (ss : Symbols) (vs : Values) (ts : List Terminal) → Backs ok (M.clause k t p ss vs) (token t p) ts (Holds ok (Symbol.Clause k ∷ ss) (token t p ∷ ts))
+  clause_back k (Kind.Mark Mark.OpenRound) p ss vs ts = λ o h. clause_open k p ss ts h
+  clause_back k (Kind.Mark Mark.Less) p ss vs ts = λ o h. clause_less k p ss ts h (alone ok _ o)
+  clause_back k t p ss vs ts = widen ok (M.bare_pattern (k + 1) t p (one_when_guarded k ss) vs) (token t p) ts (clause_one k ss (token t p ∷ ts)) (bare_pattern_back ok (k + 1) t p (one_when_guarded k ss) vs ts)
 
-  -- expressions
+  -- behind its `(`
 
-  fun_symbols_back : (k : ℕ) (p : Place) (ss : Symbols) (ts : List Terminal) → Holds ok (Symbol.Wants Mark.OpenRound ∷ Symbol.First Element.Variable Closer.Round ∷ Symbol.Wants Mark.Arrow ∷ M.expression (k + 1) (Symbol.Make Maker.Fun ∷ ss)) ts → ok (part k) (mark Mark.Fun p ∷ ts) ≡ true → Holds ok (Symbol.Bare (Part.Fun k) ∷ ss) (mark Mark.Fun p ∷ ts)
-  fun_symbols_back k p ss ts (on (wants _ q) (on {ts = xs} {us = ys} d (on (wants _ s) (on (expression e) (on make h))))) o = elim (variables_of ok Closer.Round xs ys d) [ all_variables r vs ↦ on (bare_fun (G.«fun» p q r s o vs e)) h ]
+  inside_variable : (k : ℕ) (x : Var) (ss : Symbols) (ts : List Terminal) → Holds ok (Symbol.ClauseInsideVariable k ∷ ss) ts → ok (part (k + 1)) (of_variable x ∷ ts) ≡ true → Holds ok (Symbol.ClauseInside k ∷ ss) (of_variable x ∷ ts)
+  inside_variable k x ss ts (on (clause_inside_variable c g) h) o = on (clause_inside (λ q. g q x o)) h
 
-  fun_back : (k : ℕ) (t : Kind) (p : Place) (ss : Symbols) (vs : Values) (ts : List Terminal) → Backs (M.bare_fun k t p ss vs) (token t p) ts (Holds ok (Symbol.Bare (Part.Fun k) ∷ ss) (token t p ∷ ts))
-  fun_back k (Kind.Mark Mark.Fun) p ss vs ts = λ o h. fun_symbols_back k p ss ts h (alone _ o)
-  fun_back k _ p ss vs ts = tt
-
-  expression_atom : (k : ℕ) (a : List ℕ) (p : Place) (ss : Symbols) (ts : List Terminal) → Holds ok (Symbol.AfterAtom ∷ ss) ts → ok (part k) (token (Kind.Atom a) p ∷ ts) ≡ true → Holds ok (Symbol.Bare (Part.Expression k) ∷ ss) (token (Kind.Atom a) p ∷ ts)
-  expression_atom k a p ss ts (on no_arity h) o = on (bare_expression (G.literal a p o)) h
-  expression_atom k a p ss ts (on (slash n q r) h) o = on (bare_expression (G.function {f = name_of a n} {p = p} o (G.function_name q r))) h
-
-  expression_square : (k : ℕ) (p : Place) (ss : Symbols) (ts : List Terminal) → Holds ok (Symbol.CellsFirst (Term.Expression k) ∷ ss) ts → ok (part k) (mark Mark.OpenSquare p ∷ ts) ≡ true → Holds ok (Symbol.Bare (Part.Expression k) ∷ ss) (mark Mark.OpenSquare p ∷ ts)
-  expression_square k p ss ts (on {us = us} d h) o = elim (expression_list ok k p ts us o d) [ found_expression e ↦ on (bare_expression e) h ]
-
-  expression_brace : (k : ℕ) (p : Place) (ss : Symbols) (ts : List Terminal) → Holds ok (Symbol.First (Element.Term (Term.Expression (k + 1))) Closer.Brace ∷ Symbol.Make (Maker.Tuple (Term.Expression k)) ∷ ss) ts → ok (part k) (mark Mark.OpenBrace p ∷ ts) ≡ true → Holds ok (Symbol.Bare (Part.Expression k) ∷ ss) (mark Mark.OpenBrace p ∷ ts)
-  expression_brace k p ss ts (on {us = us} d (on make h)) o = elim (expressions_of ok (k + 1) Closer.Brace ts us d) [ all_expressions q es ↦ on (bare_expression (G.tuple p q o es)) h ]
-
-  expression_less : (k : ℕ) (p : Place) (ss : Symbols) (ts : List Terminal) → Holds ok (Symbol.First (Element.Term (Term.Expression (k + 1))) Closer.Angle ∷ Symbol.Make Maker.Values ∷ ss) ts → ok (part k) (mark Mark.Less p ∷ ts) ≡ true → Holds ok (Symbol.Bare (Part.Expression k) ∷ ss) (mark Mark.Less p ∷ ts)
-  expression_less k p ss ts (on {us = us} d (on make h)) o = elim (expressions_of ok (k + 1) Closer.Angle ts us d) [ all_expressions q es ↦ on (bare_expression (G.values p q o es)) h ]
-
-  expression_let : (k : ℕ) (p : Place) (ss : Symbols) (ts : List Terminal) → Holds ok (Symbol.Variables ∷ Symbol.Wants Mark.Equals ∷ M.expression (k + 1) (Symbol.Wants Mark.In ∷ M.expression (k + 1) (Symbol.Make Maker.Let ∷ ss))) ts → ok (part k) (mark Mark.Let p ∷ ts) ≡ true → Holds ok (Symbol.Bare (Part.Expression k) ∷ ss) (mark Mark.Let p ∷ ts)
-  expression_let k p ss ts (on (variables xs) (on (wants _ q) (on (expression d) (on (wants _ r) (on (expression e) (on make h)))))) o = on (bare_expression (G.«let» p q r o xs d e)) h
-
-  expression_case : (k : ℕ) (p : Place) (ss : Symbols) (ts : List Terminal) → Holds ok (M.expression (k + 1) (Symbol.Wants Mark.Of ∷ Symbol.Make Maker.NoClauses ∷ Symbol.Clause (k + 1) ∷ Symbol.ClausesRest (k + 1) ∷ ss)) ts → ok (part k) (mark Mark.Case p ∷ ts) ≡ true → Holds ok (Symbol.Bare (Part.Expression k) ∷ ss) (mark Mark.Case p ∷ ts)
-  expression_case k p ss ts (on (expression d) (on (wants _ q) (on make (on (clause c) (on (clauses_none r) h))))) o = on (bare_expression (G.case p q r o d (G.last_clause c))) h
-  expression_case k p ss ts (on (expression d) (on (wants _ q) (on make (on (clause c) (on (clauses_some r cs) h))))) o = on (bare_expression (G.case p q r o d (G.more_clauses c cs))) h
-
-  expression_lambda : (k : ℕ) (ss : Symbols) (ts : List Terminal) → Holds ok (Symbol.Bare (Part.Fun k) ∷ Symbol.Make Maker.Lambda ∷ ss) ts → Holds ok (Symbol.Bare (Part.Expression k) ∷ ss) ts
-  expression_lambda k ss ts (on (bare_fun d) (on make h)) = on (bare_expression (G.lambda d)) h
-
-  expression_letrec : (k : ℕ) (p : Place) (ss : Symbols) (ts : List Terminal) → Holds ok (Symbol.Make Maker.NoDefinitions ∷ Symbol.Definitions (k + 1) ∷ Symbol.Wants Mark.In ∷ M.expression (k + 1) (Symbol.Make Maker.Letrec ∷ ss)) ts → ok (part k) (mark Mark.Letrec p ∷ ts) ≡ true → Holds ok (Symbol.Bare (Part.Expression k) ∷ ss) (mark Mark.Letrec p ∷ ts)
-  expression_letrec k p ss ts (on make (on (definitions ds) (on (wants _ q) (on (expression e) (on make h))))) o = on (bare_expression (G.letrec p q o ds e)) h
-
-  apply_arguments : (k : ℕ) (p : Place) (e : Expr) (ss : Symbols) (ts us : List Terminal) → G.ExpressionOf ok (k + 1) e ts us → HeldArguments ok (k + 1) ss us → ok (part k) (mark Mark.Apply p ∷ ts) ≡ true → Holds ok (Symbol.Bare (Part.Expression k) ∷ ss) (mark Mark.Apply p ∷ ts)
-  apply_arguments k p e ss ts us d (held_arguments q r es h) o = on (bare_expression (G.apply p q r o d es)) h
-
-  expression_apply : (k : ℕ) (p : Place) (ss : Symbols) (ts : List Terminal) → Holds ok (M.expression (k + 1) (arguments (k + 1) Maker.Apply ss)) ts → ok (part k) (mark Mark.Apply p ∷ ts) ≡ true → Holds ok (Symbol.Bare (Part.Expression k) ∷ ss) (mark Mark.Apply p ∷ ts)
-  expression_apply k p ss ts (on {us = us} (expression {e = e} d) h) o = apply_arguments k p e ss ts us d (arguments_of ok (k + 1) Maker.Apply ss us h) o
-
-  call_arguments : (k : ℕ) (p q : Place) (m f : List ℕ) (ss : Symbols) (ts us ws : List Terminal) → G.Annotated ok (G.Operand ok m) ts (mark Mark.Colon q ∷ us) → G.Annotated ok (G.Operand ok f) us ws → HeldArguments ok (k + 1) ss ws → ok (part k) (mark Mark.Call p ∷ ts) ≡ true → Holds ok (Symbol.Bare (Part.Expression k) ∷ ss) (mark Mark.Call p ∷ ts)
-  call_arguments k p q m f ss ts us ws a b (held_arguments r s es h) o = on (bare_expression (G.call p q r s o a b es)) h
-
-  expression_call : (k : ℕ) (p : Place) (ss : Symbols) (ts : List Terminal) → Holds ok (Symbol.Annotated Part.Operand ∷ Symbol.Wants Mark.Colon ∷ Symbol.Annotated Part.Operand ∷ arguments (k + 1) Maker.Call ss) ts → ok (part k) (mark Mark.Call p ∷ ts) ≡ true → Holds ok (Symbol.Bare (Part.Expression k) ∷ ss) (mark Mark.Call p ∷ ts)
-  expression_call k p ss ts (on (operand {a = m} a) (on (wants _ q) (on {ts = us} {us = ws} (operand {a = f} b) h))) o = call_arguments k p q m f ss ts us ws a b (arguments_of ok (k + 1) Maker.Call ss ws h) o
-
-  primop_arguments : (k : ℕ) (p : Place) (f : List ℕ) (ss : Symbols) (ts us : List Terminal) → G.Annotated ok (G.AtomOf f) ts us → HeldArguments ok (k + 1) ss us → ok (part k) (mark Mark.Primop p ∷ ts) ≡ true → Holds ok (Symbol.Bare (Part.Expression k) ∷ ss) (mark Mark.Primop p ∷ ts)
-  primop_arguments k p f ss ts us a (held_arguments q r es h) o = on (bare_expression (G.primop p q r o a es)) h
-
-  expression_primop : (k : ℕ) (p : Place) (ss : Symbols) (ts : List Terminal) → Holds ok (Symbol.Annotated Part.Atom ∷ arguments (k + 1) Maker.Primop ss) ts → ok (part k) (mark Mark.Primop p ∷ ts) ≡ true → Holds ok (Symbol.Bare (Part.Expression k) ∷ ss) (mark Mark.Primop p ∷ ts)
-  expression_primop k p ss ts (on {us = us} (atom {a = f} a) h) o = primop_arguments k p f ss ts us a (arguments_of ok (k + 1) Maker.Primop ss us h) o
-
-  expression_try : (k : ℕ) (p : Place) (ss : Symbols) (ts : List Terminal) → Holds ok (M.expression (k + 1) (Symbol.Wants Mark.Of ∷ Symbol.Variables ∷ Symbol.Wants Mark.Arrow ∷ M.expression (k + 1) (Symbol.Wants Mark.Catch ∷ Symbol.Variables ∷ Symbol.Wants Mark.Arrow ∷ M.expression (k + 1) (Symbol.Make Maker.Try ∷ ss)))) ts → ok (part k) (mark Mark.Try p ∷ ts) ≡ true → Holds ok (Symbol.Bare (Part.Expression k) ∷ ss) (mark Mark.Try p ∷ ts)
-  expression_try k p ss ts (on (expression d) (on (wants _ q) (on (variables xs) (on (wants _ r) (on (expression e) (on (wants _ s) (on (variables ys) (on (wants _ t) (on (expression f) (on make h)))))))))) o = on (bare_expression (G.try p q r s t o d xs e ys f)) h
-
-  expression_do : (k : ℕ) (p : Place) (ss : Symbols) (ts : List Terminal) → Holds ok (M.expression (k + 1) (M.expression (k + 1) (Symbol.Make Maker.Do ∷ ss))) ts → ok (part k) (mark Mark.Do p ∷ ts) ≡ true → Holds ok (Symbol.Bare (Part.Expression k) ∷ ss) (mark Mark.Do p ∷ ts)
-  expression_do k p ss ts (on (expression d) (on (expression e) (on make h))) o = on (bare_expression (G.do_both p o d e)) h
-
-  expression_catch : (k : ℕ) (p : Place) (ss : Symbols) (ts : List Terminal) → Holds ok (M.expression (k + 1) (Symbol.Make Maker.Catch ∷ ss)) ts → ok (part k) (mark Mark.Catch p ∷ ts) ≡ true → Holds ok (Symbol.Bare (Part.Expression k) ∷ ss) (mark Mark.Catch p ∷ ts)
-  expression_catch k p ss ts (on (expression d) (on make h)) o = on (bare_expression (G.catch p o d)) h
-
-  expression_back : (k : ℕ) (t : Kind) (p : Place) (ss : Symbols) (vs : Values) (ts : List Terminal) → Backs (M.bare_expression k t p ss vs) (token t p) ts (Holds ok (Symbol.Bare (Part.Expression k) ∷ ss) (token t p ∷ ts))
-  expression_back k (Kind.Natural n) p ss vs ts = λ o h. on (bare_expression (G.integer p (G.digits n) (alone _ o))) h
-  expression_back k (Kind.Integer n) p ss vs ts = λ o h. on (bare_expression (G.integer p (G.signed_or_character n) (alone _ o))) h
-  expression_back k (Kind.Text s) p ss vs ts = λ o h. on (bare_expression (G.characters s p (alone _ o))) h
-  expression_back k (Kind.Atom a) p ss vs ts = λ o h. expression_atom k a p ss ts h (alone _ o)
-  expression_back k (Kind.Variable x) p ss vs ts = λ o h. on (bare_expression (G.variable_name x p (alone _ o))) h
-  expression_back k (Kind.Mark Mark.OpenSquare) p ss vs ts = λ o h. expression_square k p ss ts h (alone _ o)
-  expression_back k (Kind.Mark Mark.OpenBrace) p ss vs ts = λ o h. expression_brace k p ss ts h (alone _ o)
-  expression_back k (Kind.Mark Mark.Less) p ss vs ts = λ o h. expression_less k p ss ts h (alone _ o)
-  expression_back k (Kind.Mark Mark.Let) p ss vs ts = λ o h. expression_let k p ss ts h (alone _ o)
-  expression_back k (Kind.Mark Mark.Case) p ss vs ts = λ o h. expression_case k p ss ts h (alone _ o)
-  expression_back k (Kind.Mark Mark.Fun) p ss vs ts = λ o h. expression_lambda k ss (mark Mark.Fun p ∷ ts) (fun_symbols_back k p (Symbol.Make Maker.Lambda ∷ ss) ts h (alone _ o))
-  expression_back k (Kind.Mark Mark.Letrec) p ss vs ts = λ o h. expression_letrec k p ss ts h (alone _ o)
-  expression_back k (Kind.Mark Mark.Apply) p ss vs ts = λ o h. expression_apply k p ss ts h (alone _ o)
-  expression_back k (Kind.Mark Mark.Call) p ss vs ts = λ o h. expression_call k p ss ts h (alone _ o)
-  expression_back k (Kind.Mark Mark.Primop) p ss vs ts = λ o h. expression_primop k p ss ts h (alone _ o)
-  expression_back k (Kind.Mark Mark.Try) p ss vs ts = λ o h. expression_try k p ss ts h (alone _ o)
-  expression_back k (Kind.Mark Mark.Do) p ss vs ts = λ o h. expression_do k p ss ts h (alone _ o)
-  expression_back k (Kind.Mark Mark.Catch) p ss vs ts = λ o h. expression_catch k p ss ts h (alone _ o)
-  expression_back k _ p ss vs ts = tt
-
-  -- modules
-
-  module_symbols_back : (p : Place) (ss : Symbols) (ts : List Terminal) → Holds ok (Symbol.Bare Part.Atom ∷ Symbol.Wants Mark.OpenSquare ∷ Symbol.Make (Maker.Empty Element.Export) ∷ Symbol.First Element.Export Closer.Square ∷ Symbol.Wants Mark.Attributes ∷ Symbol.Wants Mark.OpenSquare ∷ Symbol.Make (Maker.Empty Element.Attribute) ∷ Symbol.First Element.Attribute Closer.Square ∷ Symbol.Make Maker.NoDefinitions ∷ Symbol.Definitions 1 ∷ Symbol.ModuleEnd ∷ ss) ts → Holds ok (Symbol.Bare Part.Module ∷ ss) (mark Mark.Module p ∷ ts)
-  module_symbols_back p ss ts (on (bare_atom {a = a} (G.atom q)) (on (wants _ r) (on make (on {ts = xs} {us = xs'} e (on (wants _ t) (on (wants _ u) (on make (on {ts = ys} {us = ys'} f (on make (on (definitions ds) (on (module_end w) h))))))))))) =
-      elim (exports_of ok Closer.Square xs xs' e) [ all_exports s es ↦ elim (attributes_of ok Closer.Square ys ys' f) [ all_attributes v as' ↦ on (bare_module (G.«module» a p q r s t u v w es as' ds)) h ] ]
-
-  module_back : (t : Kind) (p : Place) (ss : Symbols) (vs : Values) (ts : List Terminal) → Backs (M.bare_module t ss vs) (token t p) ts (Holds ok (Symbol.Bare Part.Module ∷ ss) (token t p ∷ ts))
-  module_back (Kind.Mark Mark.Module) p ss vs ts = λ o h. module_symbols_back p ss ts h
-  module_back _ p ss vs ts = tt
-
-  module_end_back : (t : Kind) (p : Place) (ss : Symbols) (vs : Values) (ts : List Terminal) → Backs (M.module_end t ss vs) (token t p) ts (Holds ok (Symbol.ModuleEnd ∷ ss) (token t p ∷ ts))
-  module_end_back (Kind.Mark Mark.End) p ss vs ts = λ o h. on (module_end p) h
-  module_end_back _ p ss vs ts = tt
-
-  -- parts, annotated or not
-
-  bare_back : (x : Part) (t : Kind) (p : Place) (ss : Symbols) (vs : Values) (ts : List Terminal) → Backs (M.bare x t p ss vs) (token t p) ts (Holds ok (Symbol.Bare x ∷ ss) (token t p ∷ ts))
-  bare_back Part.Module t p ss vs ts = module_back t p ss vs ts
-  bare_back Part.Name t p ss vs ts = name_back t p ss vs ts
-  bare_back Part.Atom t p ss vs ts = atom_back t p ss vs ts
-  bare_back Part.Operand t p ss vs ts = operand_back t p ss vs ts
-  bare_back Part.Variable t p ss vs ts = variable_back t p ss vs ts
-  bare_back (Part.Constant k) t p ss vs ts = constant_back k t p ss vs ts
-  bare_back (Part.Fun k) t p ss vs ts = fun_back k t p ss vs ts
-  bare_back (Part.Expression k) t p ss vs ts = expression_back k t p ss vs ts
-
-  not_noted : (x : Part) (ss : Symbols) (ts : List Terminal) → Holds ok (Symbol.Bare x ∷ ss) ts → Holds ok (Symbol.Annotated x ∷ ss) ts
-  not_noted Part.Module ss ts (on (bare_module d) h) = on (module' (G.bare d)) h
-  not_noted Part.Name ss ts (on (bare_name d) h) = on (name (G.bare d)) h
-  not_noted Part.Atom ss ts (on (bare_atom d) h) = on (atom (G.bare d)) h
-  not_noted Part.Operand ss ts (on (bare_operand d) h) = on (operand (G.bare d)) h
-  not_noted Part.Variable ss ts (on (bare_variable d) h) = on (variable (G.bare d)) h
-  not_noted (Part.Constant k) ss ts (on (bare_constant d) h) = on (constant (G.bare d)) h
-  not_noted (Part.Fun k) ss ts (on (bare_fun d) h) = on (fun (G.fun_bare d)) h
-  not_noted (Part.Expression k) ss ts (on (bare_expression d) h) = on (expression (G.expression_bare d)) h
-
-  noted : (x : Part) (o : Place) (ss : Symbols) (ts : List Terminal) → Holds ok (Symbol.Bare x ∷ annotation ss) ts → Holds ok (Symbol.Annotated x ∷ ss) (mark Mark.OpenRound o ∷ ts)
-  noted Part.Module o ss ts (on {us = us} (bare_module d) h) = elim (annotation_of ok ss us h) [ held_annotation n i ↦ on (module' (G.annotated o d n)) i ]
-  noted Part.Name o ss ts (on {us = us} (bare_name d) h) = elim (annotation_of ok ss us h) [ held_annotation n i ↦ on (name (G.annotated o d n)) i ]
-  noted Part.Atom o ss ts (on {us = us} (bare_atom d) h) = elim (annotation_of ok ss us h) [ held_annotation n i ↦ on (atom (G.annotated o d n)) i ]
-  noted Part.Operand o ss ts (on {us = us} (bare_operand d) h) = elim (annotation_of ok ss us h) [ held_annotation n i ↦ on (operand (G.annotated o d n)) i ]
-  noted Part.Variable o ss ts (on {us = us} (bare_variable d) h) = elim (annotation_of ok ss us h) [ held_annotation n i ↦ on (variable (G.annotated o d n)) i ]
-  noted (Part.Constant k) o ss ts (on {us = us} (bare_constant d) h) = elim (annotation_of ok ss us h) [ held_annotation n i ↦ on (constant (G.annotated o d n)) i ]
-  noted (Part.Fun k) o ss ts (on {us = us} (bare_fun d) h) = elim (annotation_of ok ss us h) [ held_annotation n i ↦ on (fun (G.fun_annotated o d n)) i ]
-  noted (Part.Expression k) o ss ts (on {us = us} (bare_expression d) h) = elim (annotation_of ok ss us h) [ held_annotation n i ↦ on (expression (G.expression_annotated o d n)) i ]
-
-  annotated_back : (x : Part) (t : Kind) (p : Place) (ss : Symbols) (vs : Values) (ts : List Terminal) → Backs (M.annotated x t p ss vs) (token t p) ts (Holds ok (Symbol.Annotated x ∷ ss) (token t p ∷ ts))
-  annotated_back x (Kind.Mark Mark.OpenRound) p ss vs ts = λ o h. noted x p ss ts h
-  annotated_back x t p ss vs ts = widen (M.bare x t p ss vs) (token t p) ts (not_noted x ss (token t p ∷ ts)) (bare_back x t p ss vs ts)
-
-  -- patterns
-
-  data HeldPattern : ℕ → Symbols → List Terminal → Type 0 where
-    held_pattern : {k : ℕ} {f : Pattern} {ss : Symbols} {ts us : List Terminal} → G.BarePattern ok k f ts us → Holds ok ss us → HeldPattern k ss ts
-
-  pattern_square : (k : ℕ) (p : Place) (ss : Symbols) (ts : List Terminal) → Holds ok (Symbol.CellsFirst (Term.Pattern k) ∷ ss) ts → ok (part k) (mark Mark.OpenSquare p ∷ ts) ≡ true → HeldPattern k ss (mark Mark.OpenSquare p ∷ ts)
-  pattern_square k p ss ts (on {us = us} d h) o = elim (pattern_list ok k p ts us o d) [ found_pattern f ↦ held_pattern f h ]
-
-  pattern_brace : (k : ℕ) (p : Place) (ss : Symbols) (ts : List Terminal) → Holds ok (Symbol.First (Element.Term (Term.Pattern (k + 1))) Closer.Brace ∷ Symbol.Make (Maker.Tuple (Term.Pattern k)) ∷ ss) ts → ok (part k) (mark Mark.OpenBrace p ∷ ts) ≡ true → HeldPattern k ss (mark Mark.OpenBrace p ∷ ts)
-  pattern_brace k p ss ts (on {us = us} d (on make h)) o = elim (patterns_of ok (k + 1) Closer.Brace ts us d) [ all_patterns q fs ↦ held_pattern (G.pattern_tuple p q o fs) h ]
-
-  plain_back : (k : ℕ) (t : Kind) (p : Place) (ss : Symbols) (vs : Values) (ts : List Terminal) → Backs (M.plain_pattern k t p ss vs) (token t p) ts (HeldPattern k ss (token t p ∷ ts))
-  plain_back k (Kind.Natural n) p ss vs ts = λ o h. held_pattern (G.pattern_integer p (G.digits n) (alone _ o)) h
-  plain_back k (Kind.Integer n) p ss vs ts = λ o h. held_pattern (G.pattern_integer p (G.signed_or_character n) (alone _ o)) h
-  plain_back k (Kind.Text s) p ss vs ts = λ o h. held_pattern (G.pattern_characters s p (alone _ o)) h
-  plain_back k (Kind.Atom a) p ss vs ts = λ o h. held_pattern (G.pattern_atom a p (alone _ o)) h
-  plain_back k (Kind.Mark Mark.OpenSquare) p ss vs ts = λ o h. pattern_square k p ss ts h (alone _ o)
-  plain_back k (Kind.Mark Mark.OpenBrace) p ss vs ts = λ o h. pattern_brace k p ss ts h (alone _ o)
-  plain_back k _ p ss vs ts = tt
-
-  bare_variable_back : (k : ℕ) (x : Var) (ss : Symbols) (ts : List Terminal) → Holds ok (Symbol.AfterVariable k ∷ ss) ts → ok (part k) (of_variable x ∷ ts) ≡ true → HeldPattern k ss (of_variable x ∷ ts)
-  bare_variable_back k x ss ts (on no_alias h) o = held_pattern (G.pattern_variable x.name x.at o) h
-  bare_variable_back k x ss ts (on (equals q d) h) o = held_pattern (G.pattern_alias {x = x} q o (G.bare G.variable) d) h
-
-  bare_pattern_back : (k : ℕ) (t : Kind) (p : Place) (ss : Symbols) (vs : Values) (ts : List Terminal) → Backs (M.bare_pattern k t p ss vs) (token t p) ts (HeldPattern k ss (token t p ∷ ts))
-  bare_pattern_back k (Kind.Variable x) p ss vs ts = λ o h. bare_variable_back k (variable_at p x) ss ts h (alone _ o)
-  bare_pattern_back k t p ss vs ts = plain_back k t p ss vs ts
-
-  pattern_open : (k : ℕ) (p : Place) (ss : Symbols) (ts : List Terminal) → Holds ok (Symbol.PatternInside k ∷ ss) ts → Holds ok (Symbol.Pattern k ∷ ss) (mark Mark.OpenRound p ∷ ts)
-  pattern_open k p ss ts (on (pattern_inside g) h) = on (pattern' (g p)) h
-
-  bare_is_pattern : (k : ℕ) (ss : Symbols) (ts : List Terminal) → HeldPattern k ss ts → Holds ok (Symbol.Pattern k ∷ ss) ts
-  bare_is_pattern k ss ts (held_pattern d h) = on (pattern' (G.pattern_bare d)) h
-
-  pattern_back : (k : ℕ) (t : Kind) (p : Place) (ss : Symbols) (vs : Values) (ts : List Terminal) → Backs (M.pattern k t p ss vs) (token t p) ts (Holds ok (Symbol.Pattern k ∷ ss) (token t p ∷ ts))
-  pattern_back k (Kind.Mark Mark.OpenRound) p ss vs ts = λ o h. pattern_open k p ss ts h
-  pattern_back k t p ss vs ts = widen (M.bare_pattern k t p ss vs) (token t p) ts (bare_is_pattern k ss (token t p ∷ ts)) (bare_pattern_back k t p ss vs ts)
-
-  inside_variable : (k : ℕ) (x : Var) (ss : Symbols) (ts : List Terminal) → Holds ok (Symbol.PatternInsideVariable k ∷ ss) ts → ok (part k) (of_variable x ∷ ts) ≡ true → Holds ok (Symbol.PatternInside k ∷ ss) (of_variable x ∷ ts)
-  inside_variable k x ss ts (on (pattern_inside_variable f g) h) o = on (pattern_inside (λ q. g q x o)) h
-
-  inside_open : (k : ℕ) (p : Place) (ss : Symbols) (ts : List Terminal) → Holds ok (Symbol.AliasName k ∷ annotation (Symbol.Wants Mark.Equals ∷ alias_of k (annotation ss))) ts → Holds ok (Symbol.PatternInside k ∷ ss) (mark Mark.OpenRound p ∷ ts)
-  inside_open k p ss ts (on {us = us} (alias_name x o) h) = elim (annotation_of ok (Symbol.Wants Mark.Equals ∷ alias_of k (annotation ss)) us h) [ held_annotation m (on (wants _ q) (on (pattern' d) (on {ts = ws} make i))) ↦ elim (annotation_of ok ss ws i) [ held_annotation n j ↦ on (pattern_inside (λ r. G.pattern_annotated r (G.pattern_alias {x = x} q o (G.annotated p G.variable m) d) n)) j ] ]
-
-  inside_plain : (k : ℕ) (ss : Symbols) (ts : List Terminal) → HeldPattern k (annotation ss) ts → Holds ok (Symbol.PatternInside k ∷ ss) ts
-  inside_plain k ss ts (held_pattern {us = us} d h) = elim (annotation_of ok ss us h) [ held_annotation n i ↦ on (pattern_inside (λ q. G.pattern_annotated q d n)) i ]
-
-  pattern_inside_back : (k : ℕ) (t : Kind) (p : Place) (ss : Symbols) (vs : Values) (ts : List Terminal) → Backs (M.pattern_inside k t p ss vs) (token t p) ts (Holds ok (Symbol.PatternInside k ∷ ss) (token t p ∷ ts))
-  pattern_inside_back k (Kind.Variable x) p ss vs ts = λ o h. inside_variable k (variable_at p x) ss ts h (alone _ o)
-  pattern_inside_back k (Kind.Mark Mark.OpenRound) p ss vs ts = λ o h. inside_open k p ss ts h
-  pattern_inside_back k t p ss vs ts = widen (M.plain_pattern k t p (annotation ss) vs) (token t p) ts (inside_plain k ss (token t p ∷ ts)) (plain_back k t p (annotation ss) vs ts)
-
-  alias_name_back : (k : ℕ) (t : Kind) (p : Place) (ss : Symbols) (vs : Values) (ts : List Terminal) → Backs (M.alias_name k t p ss vs) (token t p) ts (Holds ok (Symbol.AliasName k ∷ ss) (token t p ∷ ts))
-  alias_name_back k (Kind.Variable x) p ss vs ts = λ o h. on (alias_name (variable_at p x) (alone _ o)) h
-  alias_name_back k _ p ss vs ts = tt
-
-  inside_equals : (k : ℕ) (p : Place) (ss : Symbols) (ts : List Terminal) → Holds ok (alias_of k (annotation ss)) ts → Holds ok (Symbol.PatternInsideVariable k ∷ ss) (mark Mark.Equals p ∷ ts)
-  inside_equals k p ss ts (on (pattern' {f = f} d) (on {ts = us} make h)) = elim (annotation_of ok ss us h) [ held_annotation n i ↦ on (pattern_inside_variable (λ x. pattern_at x.at (PatNode-F.Alias x f)) (λ r x o. G.pattern_annotated r (G.pattern_alias {x = x} p o (G.bare G.variable) d) n)) i ]
-
-  inside_dash : (k : ℕ) (p : Place) (ss : Symbols) (ts : List Terminal) → Holds ok (annotation_list (Symbol.AfterVariable k ∷ ss)) ts → Holds ok (Symbol.PatternInsideVariable k ∷ ss) (mark Mark.Dash p ∷ ts)
-  inside_dash k p ss ts h = elim (annotation_list_of ok p (Symbol.AfterVariable k ∷ ss) ts h) [
-      held_annotation n (on no_alias i) ↦ on (pattern_inside_variable (λ x. pattern_at x.at (PatNode-F.Var x.name)) (λ r x o. G.pattern_annotated r (G.pattern_variable x.name x.at o) n)) i
-    | held_annotation n (on (equals {f = f} q d) i) ↦ on (pattern_inside_variable (λ x. pattern_at x.at (PatNode-F.Alias x f)) (λ r x o. G.pattern_bare (G.pattern_alias {x = x} q o (G.annotated r G.variable n) d))) i ]
-
-  pattern_inside_variable_back : (k : ℕ) (t : Kind) (p : Place) (ss : Symbols) (vs : Values) (ts : List Terminal) → Backs (M.pattern_inside_variable k t ss vs) (token t p) ts (Holds ok (Symbol.PatternInsideVariable k ∷ ss) (token t p ∷ ts))
-  pattern_inside_variable_back k (Kind.Mark Mark.Equals) p ss vs ts = λ o h. inside_equals k p ss ts h
-  pattern_inside_variable_back k (Kind.Mark Mark.Dash) p ss vs ts = λ o h. inside_dash k p ss ts h
-  pattern_inside_variable_back k _ p ss vs ts = tt
-
-  equals_back : (k : ℕ) (p : Place) (ss : Symbols) (ts : List Terminal) → Holds ok (alias_of k ss) ts → Holds ok (Symbol.AfterVariable k ∷ ss) (mark Mark.Equals p ∷ ts)
-  equals_back k p ss ts (on (pattern' d) (on make h)) = on (equals p d) h
-
-  after_variable_back : (k : ℕ) (t : Kind) (p : Place) (ss : Symbols) (vs : Values) (ts : List Terminal) (m : Move) → Backs m (token t p) ts (Holds ok ss (token t p ∷ ts)) → Backs (M.after_variable k t ss vs m) (token t p) ts (Holds ok (Symbol.AfterVariable k ∷ ss) (token t p ∷ ts))
-  after_variable_back k (Kind.Mark Mark.Equals) p ss vs ts m b = λ o h. equals_back k p ss ts h
-  after_variable_back k t p ss vs ts m b = widen m (token t p) ts (λ (h : Holds ok ss (token t p ∷ ts)). on no_alias h) b
-
-  -- elements
-
-  term_pattern : (k : ℕ) (ss : Symbols) (ts : List Terminal) → Holds ok (Symbol.Pattern k ∷ ss) ts → Holds ok (Symbol.Item (Element.Term (Term.Pattern k)) ∷ ss) ts
-  term_pattern k ss ts (on (pattern' d) h) = on (item_pattern d) h
-
-  term_expression : (k : ℕ) (ss : Symbols) (ts : List Terminal) → Holds ok (Symbol.Annotated (Part.Expression k) ∷ ss) ts → Holds ok (Symbol.Item (Element.Term (Term.Expression k)) ∷ ss) ts
-  term_expression k ss ts (on (expression d) h) = on (item_expression d) h
-
-  term_constant : (k : ℕ) (ss : Symbols) (ts : List Terminal) → Holds ok (Symbol.Bare (Part.Constant k) ∷ ss) ts → Holds ok (Symbol.Item (Element.Term (Term.Constant k)) ∷ ss) ts
-  term_constant k ss ts (on (bare_constant d) h) = on (item_constant d) h
-
-  term_back : (x : Term) (t : Kind) (p : Place) (ss : Symbols) (vs : Values) (ts : List Terminal) → Backs (M.term x t p ss vs) (token t p) ts (Holds ok (Symbol.Item (Element.Term x) ∷ ss) (token t p ∷ ts))
-  term_back (Term.Expression k) t p ss vs ts = widen (M.annotated (Part.Expression k) t p ss vs) (token t p) ts (term_expression k ss (token t p ∷ ts)) (annotated_back (Part.Expression k) t p ss vs ts)
-  term_back (Term.Pattern k) t p ss vs ts = widen (M.pattern k t p ss vs) (token t p) ts (term_pattern k ss (token t p ∷ ts)) (pattern_back k t p ss vs ts)
-  term_back (Term.Constant k) t p ss vs ts = widen (M.constant k t p ss vs) (token t p) ts (term_constant k ss (token t p ∷ ts)) (constant_back k t p ss vs ts)
-
-  variable_item_of : (ss : Symbols) (ts : List Terminal) → Holds ok (Symbol.Annotated Part.Variable ∷ ss) ts → Holds ok (Symbol.Item Element.Variable ∷ ss) ts
-  variable_item_of ss ts (on (variable d) h) = on (item_variable d) h
-
-  export_item_of : (ss : Symbols) (ts : List Terminal) → Holds ok (Symbol.Annotated Part.Name ∷ ss) ts → Holds ok (Symbol.Item Element.Export ∷ ss) ts
-  export_item_of ss ts (on (name {f = f} {p = p} d) h) = on (item_export {e = (f, p)} d) h
-
-  attribute_item_of : (ss : Symbols) (ts : List Terminal) → Holds ok (Symbol.Annotated Part.Atom ∷ Symbol.Wants Mark.Equals ∷ Symbol.Annotated (Part.Constant 1) ∷ ss) ts → Holds ok (Symbol.Item Element.Attribute ∷ ss) ts
-  attribute_item_of ss ts (on (atom a) (on (wants _ q) (on (constant d) h))) = on (item_attribute (G.attribute q a d)) h
-
-  item_back : (x : Element) (t : Kind) (p : Place) (ss : Symbols) (vs : Values) (ts : List Terminal) → Backs (M.item x t p ss vs) (token t p) ts (Holds ok (Symbol.Item x ∷ ss) (token t p ∷ ts))
-  item_back Element.Variable t p ss vs ts = widen (M.annotated Part.Variable t p ss vs) (token t p) ts (variable_item_of ss (token t p ∷ ts)) (annotated_back Part.Variable t p ss vs ts)
-  item_back Element.Export t p ss vs ts = widen (M.annotated Part.Name t p ss vs) (token t p) ts (export_item_of ss (token t p ∷ ts)) (annotated_back Part.Name t p ss vs ts)
-  item_back Element.Attribute t p ss vs ts = widen (M.annotated Part.Atom t p (Symbol.Wants Mark.Equals ∷ Symbol.Annotated (Part.Constant 1) ∷ ss) vs) (token t p) ts (attribute_item_of ss (token t p ∷ ts)) (annotated_back Part.Atom t p (Symbol.Wants Mark.Equals ∷ Symbol.Annotated (Part.Constant 1) ∷ ss) vs ts)
-  item_back (Element.Term x) t p ss vs ts = term_back x t p ss vs ts
-
-  first_of_item : (x : Element) (c : Closer) (ss : Symbols) (ts : List Terminal) → Holds ok (Symbol.Item x ∷ Symbol.Make (Maker.Push x) ∷ Symbol.Rest x c ∷ ss) ts → Holds ok (Symbol.First x c ∷ ss) ts
-  first_of_item x c ss ts (on d (on make (on r h))) = on (first_some d r) h
-
-  first_back : (x : Element) (c : Closer) (t : Kind) (p : Place) (ss : Symbols) (vs : Values) (ts : List Terminal) → Backs (M.first x c t p ss vs) (token t p) ts (Holds ok (Symbol.First x c ∷ ss) (token t p ∷ ts))
-  first_back x c t p ss vs ts = tested (closes c t) (λ is. closes_is c t is)
+  inside_open : (k : ℕ) (p : Place) (ss : Symbols) (ts : List Terminal) → Holds ok (Symbol.ClauseTwiceInside k ∷ ss) ts → Holds ok (Symbol.ClauseInside k ∷ ss) (mark Mark.OpenRound p ∷ ts)
+  inside_open k p ss ts (on (clause_twice_inside g) h) = on (clause_inside (λ o. g o p)) h
+
+  inside_less : (k : ℕ) (p : Place) (ss : Symbols) (ts : List Terminal) → Holds ok (Symbol.First (Element.Term (Term.Pattern (k + 1))) Closer.Angle ∷ when_guarded k (annotation ss)) ts → ok (part k) (mark Mark.Less p ∷ ts) ≡ true → Holds ok (Symbol.ClauseInside k ∷ ss) (mark Mark.Less p ∷ ts)
+  inside_less k p ss ts (on {us = us} d h) o = elim (patterns_of ok (k + 1) Closer.Angle ts us d) [ all_patterns {fs = fs} q ps ↦ elim (when_of k (annotation ss) us h) [ held_when {us = ws} c g i ↦ elim (annotation_of ok ss ws i) [ held_annotation n j ↦ on (clause_inside (λ a. G.clause_annotated a (g p fs (mark Mark.Less p ∷ ts) (G.value_patterns p q o ps)) n)) j ] ] ]
+
+  inside_plain : (k : ℕ) (ss : Symbols) (ts : List Terminal) → HeldPattern ok (k + 1) (Symbol.ClauseMiddle k ∷ ss) ts → Holds ok (Symbol.ClauseInside k ∷ ss) ts
+  inside_plain k ss ts (held_pattern {f = f} d (on (clause_middle c g) h)) = on (clause_inside (λ q. g f q ts d)) h
+
+  clause_inside_back : (k : ℕ) (t : Kind) (p : Place) (ss : Symbols) (vs : Values) (ts : List Terminal) → Backs ok (M.clause_inside k t p ss vs) (token t p) ts (Holds ok (Symbol.ClauseInside k ∷ ss) (token t p ∷ ts))
+  clause_inside_back k (Kind.Variable x) p ss vs ts = λ o h. inside_variable k (variable_at p x) ss ts h (alone ok _ o)
+  clause_inside_back k (Kind.Mark Mark.OpenRound) p ss vs ts = λ o h. inside_open k p ss ts h
+  clause_inside_back k (Kind.Mark Mark.Less) p ss vs ts = λ o h. inside_less k p ss ts h (alone ok _ o)
+  clause_inside_back k t p ss vs ts = widen ok (M.plain_pattern (k + 1) t p (Symbol.ClauseMiddle k ∷ ss) vs) (token t p) ts (inside_plain k ss (token t p ∷ ts)) (plain_back ok (k + 1) t p (Symbol.ClauseMiddle k ∷ ss) vs ts)
+
+  -- behind `(` and a variable
+
+  abbrev of_name : Var → Pattern
+  of_name x = pattern_at x.at (PatNode-F.Var x.name)
+
+  abbrev of_alias : Pattern → Var → Pattern
+  of_alias f x = pattern_at x.at (PatNode-F.Alias x f)
+
+  variable_equals : (k : ℕ) (p : Place) (ss : Symbols) (ts : List Terminal) → Holds ok (alias_of (k + 1) (Symbol.ClauseMiddle k ∷ ss)) ts → Holds ok (Symbol.ClauseInsideVariable k ∷ ss) (mark Mark.Equals p ∷ ts)
+  variable_equals k p ss ts (on (pattern' {f = f} d) (on make (on (clause_middle c g) h))) = on (clause_inside_variable (λ x. c (of_alias f x)) (λ o x a. g (of_alias f x) o (of_variable x ∷ mark Mark.Equals p ∷ ts) (G.pattern_alias {x = x} p a (G.bare G.variable) d))) h
+
+  variable_dash : (k : ℕ) (p : Place) (ss : Symbols) (ts : List Terminal) → Holds ok (annotation_list (Symbol.AfterVariable (k + 1) ∷ one_when_guarded k ss)) ts → Holds ok (Symbol.ClauseInsideVariable k ∷ ss) (mark Mark.Dash p ∷ ts)
+  variable_dash k p ss ts h = elim (annotation_list_of ok p (Symbol.AfterVariable (k + 1) ∷ one_when_guarded k ss) ts h) [
+      held_annotation n (on {us = us} no_alias i) ↦ elim (one_of k ss us i) [ held_one c g j ↦ on (clause_inside_variable (λ x. c (of_name x)) (λ o x a. G.clause_bare (g (of_name x) (mark Mark.OpenRound o ∷ of_variable x ∷ mark Mark.Dash p ∷ ts) (G.pattern_annotated o (G.pattern_variable x.name x.at a) n)))) j ]
+    | held_annotation n (on {us = us} (equals {f = f} q d) i) ↦ elim (one_of k ss us i) [ held_one c g j ↦ on (clause_inside_variable (λ x. c (of_alias f x)) (λ o x a. G.clause_bare (g (of_alias f x) (mark Mark.OpenRound o ∷ of_variable x ∷ mark Mark.Dash p ∷ ts) (G.pattern_bare (G.pattern_alias {x = x} q a (G.annotated o G.variable n) d))))) j ] ]
+
+  variable_when : (k : ℕ) (p : Place) (ss : Symbols) (ts : List Terminal) → Holds ok (guarded k (annotation ss)) ts → Holds ok (Symbol.ClauseInsideVariable k ∷ ss) (mark Mark.When p ∷ ts)
+  variable_when k p ss ts h = elim (one_guard_of k p (annotation ss) ts h) [ held_one {us = us} c g i ↦ elim (annotation_of ok ss us i) [ held_annotation n j ↦ on (clause_inside_variable (λ x. c (of_name x)) (λ o x a. G.clause_annotated o (g (of_name x) (of_variable x ∷ mark Mark.When p ∷ ts) (G.pattern_bare (G.pattern_variable x.name x.at a))) n)) j ] ]
+
+  clause_inside_variable_back : (k : ℕ) (t : Kind) (p : Place) (ss : Symbols) (vs : Values) (ts : List Terminal) → Backs ok (M.clause_inside_variable k t ss vs) (token t p) ts (Holds ok (Symbol.ClauseInsideVariable k ∷ ss) (token t p ∷ ts))
+  clause_inside_variable_back k (Kind.Mark Mark.Equals) p ss vs ts = λ o h. variable_equals k p ss ts h
+  clause_inside_variable_back k (Kind.Mark Mark.Dash) p ss vs ts = λ o h. variable_dash k p ss ts h
+  clause_inside_variable_back k (Kind.Mark Mark.When) p ss vs ts = λ o h. variable_when k p ss ts h
+  clause_inside_variable_back k _ p ss vs ts = tt
+
+  -- behind `( (`
+
+  data HeldTwice : ℕ → Symbols → List Terminal → Type 0 where
+    held_twice : {k : ℕ} {ss : Symbols} {ts us : List Terminal} (c : Pattern → Clause) → ((f : Pattern) (o q : Place) (ws : List Terminal) → G.BarePattern ok (k + 1) f ws ts → G.ClauseOf ok k (c f) (mark Mark.OpenRound o ∷ mark Mark.OpenRound q ∷ ws) us) → Holds ok ss us → HeldTwice k ss ts
+
+  twice_of : (k : ℕ) (ss : Symbols) (ts : List Terminal) → Holds ok (annotation (one_when_guarded k (annotation ss))) ts → HeldTwice k ss ts
+  twice_of k ss ts h = elim (annotation_of ok (one_when_guarded k (annotation ss)) ts h) [ held_annotation {us = us} n i ↦ elim (one_of k (annotation ss) us i) [ held_one {us = ws} c g j ↦ elim (annotation_of ok ss ws j) [ held_annotation m l ↦ held_twice c (λ f o q xs d. G.clause_annotated o (g f (mark Mark.OpenRound q ∷ xs) (G.pattern_annotated q d n)) m) l ] ] ]
+
+  twice_variable : (k : ℕ) (x : Var) (ss : Symbols) (ts : List Terminal) → Holds ok (Symbol.ClauseTwiceInsideVariable k ∷ ss) ts → ok (part (k + 1)) (of_variable x ∷ ts) ≡ true → Holds ok (Symbol.ClauseTwiceInside k ∷ ss) (of_variable x ∷ ts)
+  twice_variable k x ss ts (on (clause_twice_inside_variable c g) h) o = on (clause_twice_inside (λ a b. g a b x o)) h
+
+  twice_open : (k : ℕ) (p : Place) (ss : Symbols) (ts : List Terminal) → Holds ok (Symbol.AliasName (k + 1) ∷ annotation (Symbol.Wants Mark.Equals ∷ alias_of (k + 1) (annotation (one_when_guarded k (annotation ss))))) ts → Holds ok (Symbol.ClauseTwiceInside k ∷ ss) (mark Mark.OpenRound p ∷ ts)
+  twice_open k p ss ts (on {us = us} (alias_name x o) h) = elim (annotation_of ok (Symbol.Wants Mark.Equals ∷ alias_of (k + 1) (annotation (one_when_guarded k (annotation ss)))) us h) [ held_annotation m (on (wants _ q) (on (pattern' {f = f} d) (on {ts = ws} make i))) ↦ elim (twice_of k ss ws i) [ held_twice c g j ↦ on (clause_twice_inside (λ a b. g (of_alias f x) a b (mark Mark.OpenRound p ∷ of_variable x ∷ us) (G.pattern_alias {x = x} q o (G.annotated p G.variable m) d))) j ] ]
+
+  twice_plain : (k : ℕ) (ss : Symbols) (ts : List Terminal) → HeldPattern ok (k + 1) (annotation (one_when_guarded k (annotation ss))) ts → Holds ok (Symbol.ClauseTwiceInside k ∷ ss) ts
+  twice_plain k ss ts (held_pattern {f = f} {us = us} d h) = elim (twice_of k ss us h) [ held_twice c g i ↦ on (clause_twice_inside (λ a b. g f a b ts d)) i ]
+
+  clause_twice_inside_back : (k : ℕ) (t : Kind) (p : Place) (ss : Symbols) (vs : Values) (ts : List Terminal) → Backs ok (M.clause_twice_inside k t p ss vs) (token t p) ts (Holds ok (Symbol.ClauseTwiceInside k ∷ ss) (token t p ∷ ts))
+  clause_twice_inside_back k (Kind.Variable x) p ss vs ts = λ o h. twice_variable k (variable_at p x) ss ts h (alone ok _ o)
+  clause_twice_inside_back k (Kind.Mark Mark.OpenRound) p ss vs ts = λ o h. twice_open k p ss ts h
+  clause_twice_inside_back k t p ss vs ts = widen ok (M.plain_pattern (k + 1) t p (annotation (one_when_guarded k (annotation ss))) vs) (token t p) ts (twice_plain k ss (token t p ∷ ts)) (plain_back ok (k + 1) t p (annotation (one_when_guarded k (annotation ss))) vs ts)
+
+  twice_variable_equals : (k : ℕ) (p : Place) (ss : Symbols) (ts : List Terminal) → Holds ok (alias_of (k + 1) (annotation (one_when_guarded k (annotation ss)))) ts → Holds ok (Symbol.ClauseTwiceInsideVariable k ∷ ss) (mark Mark.Equals p ∷ ts)
+  twice_variable_equals k p ss ts (on (pattern' {f = f} d) (on {ts = us} make h)) = elim (twice_of k ss us h) [ held_twice c g i ↦ on (clause_twice_inside_variable (λ x. c (of_alias f x)) (λ a b x o. g (of_alias f x) a b (of_variable x ∷ mark Mark.Equals p ∷ ts) (G.pattern_alias {x = x} p o (G.bare G.variable) d))) i ]
+
+  twice_variable_dash : (k : ℕ) (p : Place) (ss : Symbols) (ts : List Terminal) → Holds ok (annotation_list (Symbol.ClauseTwiceInsideAnnotated k ∷ ss)) ts → Holds ok (Symbol.ClauseTwiceInsideVariable k ∷ ss) (mark Mark.Dash p ∷ ts)
+  twice_variable_dash k p ss ts h = elim (annotation_list_of ok p (Symbol.ClauseTwiceInsideAnnotated k ∷ ss) ts h) [ held_annotation n (on (clause_twice_inside_annotated c g) i) ↦ on (clause_twice_inside_variable c (λ a b x o. g a b x (mark Mark.Dash p ∷ ts) o n)) i ]
+
+  clause_twice_inside_variable_back : (k : ℕ) (t : Kind) (p : Place) (ss : Symbols) (vs : Values) (ts : List Terminal) → Backs ok (M.clause_twice_inside_variable k t ss vs) (token t p) ts (Holds ok (Symbol.ClauseTwiceInsideVariable k ∷ ss) (token t p ∷ ts))
+  clause_twice_inside_variable_back k (Kind.Mark Mark.Equals) p ss vs ts = λ o h. twice_variable_equals k p ss ts h
+  clause_twice_inside_variable_back k (Kind.Mark Mark.Dash) p ss vs ts = λ o h. twice_variable_dash k p ss ts h
+  clause_twice_inside_variable_back k _ p ss vs ts = tt
+
+  annotated_equals : (k : ℕ) (p : Place) (ss : Symbols) (ts : List Terminal) → Holds ok (alias_of (k + 1) (Symbol.ClauseMiddle k ∷ ss)) ts → Holds ok (Symbol.ClauseTwiceInsideAnnotated k ∷ ss) (mark Mark.Equals p ∷ ts)
+  annotated_equals k p ss ts (on (pattern' {f = f} d) (on make (on (clause_middle c g) h))) = on (clause_twice_inside_annotated (λ x. c (of_alias f x)) (λ a b x vs o n. g (of_alias f x) a (mark Mark.OpenRound b ∷ of_variable x ∷ vs) (G.pattern_alias {x = x} p o (G.annotated b G.variable n) d))) h
+
+  annotated_when : (k : ℕ) (p : Place) (ss : Symbols) (ts : List Terminal) → Holds ok (guarded k (annotation ss)) ts → Holds ok (Symbol.ClauseTwiceInsideAnnotated k ∷ ss) (mark Mark.When p ∷ ts)
+  annotated_when k p ss ts h = elim (one_guard_of k p (annotation ss) ts h) [ held_one {us = us} c g i ↦ elim (annotation_of ok ss us i) [ held_annotation m j ↦ on (clause_twice_inside_annotated (λ x. c (of_name x)) (λ a b x vs o n. G.clause_annotated a (g (of_name x) (mark Mark.OpenRound b ∷ of_variable x ∷ vs) (G.pattern_annotated b (G.pattern_variable x.name x.at o) n)) m)) j ] ]
+
+  clause_twice_inside_annotated_back : (k : ℕ) (t : Kind) (p : Place) (ss : Symbols) (vs : Values) (ts : List Terminal) → Backs ok (M.clause_twice_inside_annotated k t ss vs) (token t p) ts (Holds ok (Symbol.ClauseTwiceInsideAnnotated k ∷ ss) (token t p ∷ ts))
+  clause_twice_inside_annotated_back k (Kind.Mark Mark.Equals) p ss vs ts = λ o h. annotated_equals k p ss ts h
+  clause_twice_inside_annotated_back k (Kind.Mark Mark.When) p ss vs ts = λ o h. annotated_when k p ss ts h
+  clause_twice_inside_annotated_back k _ p ss vs ts = tt
+
+  -- clauses
+
+  rest_of_clause : (k : ℕ) (ss : Symbols) (ts : List Terminal) → Holds ok (Symbol.Clause k ∷ Symbol.ClausesRest k ∷ ss) ts → Holds ok (Symbol.ClausesRest k ∷ ss) ts
+  rest_of_clause k ss ts (on (clause d) (on (clauses_none p) h)) = on (clauses_some p (G.last_clause d)) h
+  rest_of_clause k ss ts (on (clause d) (on (clauses_some p e) h)) = on (clauses_some p (G.more_clauses d e)) h
+
+  clauses_rest_back : (k : ℕ) (t : Kind) (p : Place) (ss : Symbols) (vs : Values) (ts : List Terminal) → Backs ok (M.clauses_rest k t p ss vs) (token t p) ts (Holds ok (Symbol.ClausesRest k ∷ ss) (token t p ∷ ts))
+  clauses_rest_back k (Kind.Mark Mark.End) p ss vs ts = λ o h. on (clauses_none p) h
+  clauses_rest_back k t p ss vs ts = widen ok (M.clause k t p (Symbol.ClausesRest k ∷ ss) vs) (token t p) ts (rest_of_clause k ss (token t p ∷ ts)) (clause_back k t p (Symbol.ClausesRest k ∷ ss) vs ts)
+
+  -- definitions
+
+  definition_atom : (k : ℕ) (a : List ℕ) (p : Place) (ss : Symbols) (ts : List Terminal) → Holds ok (Symbol.Wants Mark.Slash ∷ Symbol.Arity ∷ defined k ss) ts → Holds ok (Symbol.Definitions k ∷ ss) (token (Kind.Atom a) p ∷ ts)
+  definition_atom k a p ss ts (on (wants _ q) (on (arity n r) (on (wants _ s) (on (fun f) (on make (on (definitions ds) h)))))) = on (definitions (G.more_definitions (G.definition {f = name_of a n} {p = p} s (G.bare (G.function_name q r)) f) ds)) h
+
+  definition_open : (k : ℕ) (p : Place) (ss : Symbols) (ts : List Terminal) → Holds ok (Symbol.Bare Part.Name ∷ annotation (defined k ss)) ts → Holds ok (Symbol.Definitions k ∷ ss) (mark Mark.OpenRound p ∷ ts)
+  definition_open k p ss ts (on {us = us} (bare_name d) h) = elim (annotation_of ok (defined k ss) us h) [ held_annotation n (on (wants _ s) (on (fun f) (on make (on (definitions ds) i)))) ↦ on (definitions (G.more_definitions (G.definition s (G.annotated p d n) f) ds)) i ]
+
+  definitions_back : (k : ℕ) (t : Kind) (p : Place) (ss : Symbols) (vs : Values) (ts : List Terminal) (m : Move) → Backs ok m (token t p) ts (Holds ok ss (token t p ∷ ts)) → Backs ok (M.definitions k t p ss vs m) (token t p) ts (Holds ok (Symbol.Definitions k ∷ ss) (token t p ∷ ts))
+  definitions_back k (Kind.Atom a) p ss vs ts m b = λ o h. definition_atom k a p ss ts h
+  definitions_back k (Kind.Mark Mark.OpenRound) p ss vs ts m b = λ o h. definition_open k p ss ts h
+  definitions_back k t p ss vs ts m b = widen ok m (token t p) ts (λ (h : Holds ok ss (token t p ∷ ts)). on (definitions G.no_definitions) h) b
+
+  -- calls
+
+  also_back : {X Y : Type 0} (need : Need) (m : Move) (t : Terminal) (ts : List Terminal) → (ok need (t ∷ ts) ≡ true → X → Y) → Backs ok m t ts X → Backs ok (also need m) t ts Y
+  also_back need (No integer) t ts f b = tt
+  also_back need (Go ss vs needs) t ts f b = λ o h. let p = and_parts ok (ok need (t ∷ ts)) (all_ok ok needs (t ∷ ts)) o in f p.0 (b p.1 h)
+
+  argument_of : (i : ℕ) (ss : Symbols) (ts : List Terminal) → ok (argument i) ts ≡ true → Holds ok (Symbol.Bare (Part.Constant 1) ∷ ss) ts → Holds ok (Symbol.Argument i ∷ ss) ts
+  argument_of i ss ts o (on (bare_constant d) h) = on (argument' o d) h
+
+  argument_back : (i : ℕ) (t : Kind) (p : Place) (ss : Symbols) (vs : Values) (ts : List Terminal) → Backs ok (M.call_argument i t p ss vs) (token t p) ts (Holds ok (Symbol.Argument i ∷ ss) (token t p ∷ ts))
+  argument_back i t p ss vs ts = also_back (argument i) (M.constant 1 t p ss vs) (token t p) ts (argument_of i ss (token t p ∷ ts)) (constant_back ok 1 t p ss vs ts)
+
+  first_of_argument : (ss : Symbols) (ts : List Terminal) → Holds ok (Symbol.Argument 1 ∷ argument_pushed 2 ss) ts → Holds ok (Symbol.ArgumentsFirst ∷ ss) ts
+  first_of_argument ss ts (on (argument' o d) (on make (on (arguments_none p) h))) = on (arguments_first p (G.some_arguments (G.last_argument o d))) h
+  first_of_argument ss ts (on (argument' o d) (on make (on (arguments_some p q e) h))) = on (arguments_first q (G.some_arguments (G.more_arguments p o d e))) h
+
+  arguments_first_back : (t : Kind) (p : Place) (ss : Symbols) (vs : Values) (ts : List Terminal) → Backs ok (M.arguments_first t p ss vs) (token t p) ts (Holds ok (Symbol.ArgumentsFirst ∷ ss) (token t p ∷ ts))
+  arguments_first_back (Kind.Mark Mark.CloseRound) p ss vs ts = λ o h. on (arguments_first p G.no_arguments) h
+  arguments_first_back t p ss vs ts = widen ok (M.call_argument 1 t p (argument_pushed 2 ss) vs) (token t p) ts (first_of_argument ss (token t p ∷ ts)) (argument_back 1 t p (argument_pushed 2 ss) vs ts)
+
+  rest_comma : (i : ℕ) (p : Place) (ss : Symbols) (ts : List Terminal) → Holds ok (Symbol.Argument i ∷ argument_pushed (i + 1) ss) ts → Holds ok (Symbol.ArgumentsRest i ∷ ss) (mark Mark.Comma p ∷ ts)
+  rest_comma i p ss ts (on (argument' o d) (on make (on (arguments_none q) h))) = on (arguments_some p q (G.last_argument o d)) h
+  rest_comma i p ss ts (on (argument' o d) (on make (on (arguments_some q r e) h))) = on (arguments_some p r (G.more_arguments q o d e)) h
+
+  arguments_rest_back : (i : ℕ) (t : Kind) (p : Place) (ss : Symbols) (vs : Values) (ts : List Terminal) → Backs ok (M.arguments_rest i t ss vs) (token t p) ts (Holds ok (Symbol.ArgumentsRest i ∷ ss) (token t p ∷ ts))
+  arguments_rest_back i (Kind.Mark Mark.Comma) p ss vs ts = λ o h. rest_comma i p ss ts h
+  arguments_rest_back i (Kind.Mark Mark.CloseRound) p ss vs ts = λ o h. on (arguments_none p) h
+  arguments_rest_back i _ p ss vs ts = tt
+
+  -- words and signs
+
+  wants_back : (m : Mark) (t : Kind) (p : Place) (ss : Symbols) (vs : Values) (ts : List Terminal) → Backs ok (M.wants m t ss vs) (token t p) ts (Holds ok (Symbol.Wants m ∷ ss) (token t p ∷ ts))
+  wants_back m (Kind.Mark n) p ss vs ts = tested (code m == code n) (λ is. one_code m n (eqb-true (code m) (code n) is))
     where
-      tested : (b : Bool) → (b ≡ true → t ≡ Kind.Mark (closing c)) → Backs (if b then Go ss vs [] else M.item x t p (Symbol.Make (Maker.Push x) ∷ Symbol.Rest x c ∷ ss) vs) (token t p) ts (Holds ok (Symbol.First x c ∷ ss) (token t p ∷ ts))
-      tested true is = λ o h. subst (λ (u : Kind). Holds ok (Symbol.First x c ∷ ss) (token u p ∷ ts)) (sym (is refl)) (on (first_none p) h)
-      tested false is = widen (M.item x t p (Symbol.Make (Maker.Push x) ∷ Symbol.Rest x c ∷ ss) vs) (token t p) ts (first_of_item x c ss (token t p ∷ ts)) (item_back x t p (Symbol.Make (Maker.Push x) ∷ Symbol.Rest x c ∷ ss) vs ts)
+      tested : (b : Bool) → (b ≡ true → m ≡ n) → Backs ok (if b then Go ss vs [] else No false) (mark n p) ts (Holds ok (Symbol.Wants m ∷ ss) (mark n p ∷ ts))
+      tested true is = λ o h. subst (λ (x : Mark). Holds ok (Symbol.Wants x ∷ ss) (mark n p ∷ ts)) (sym (is refl)) (on (wants n p) h)
+      tested false is = tt
+  wants_back m _ p ss vs ts = tt
 
-  comma_item : (x : Element) (c : Closer) (p : Place) (ss : Symbols) (ts : List Terminal) → Holds ok (Symbol.Item x ∷ Symbol.Make (Maker.Push x) ∷ Symbol.Rest x c ∷ ss) ts → Holds ok (Symbol.Rest x c ∷ ss) (mark Mark.Comma p ∷ ts)
-  comma_item x c p ss ts (on d (on make (on r h))) = on (rest_more p d r) h
+  skip_back : (maker : Maker) (t : Terminal) (ss : Symbols) (ts : List Terminal) (m : Move) → Backs ok m t ts (Holds ok ss (t ∷ ts)) → Backs ok m t ts (Holds ok (Symbol.Make maker ∷ ss) (t ∷ ts))
+  skip_back maker t ss ts m b = widen ok m t ts (λ (h : Holds ok ss (t ∷ ts)). on make h) b
 
-  comma_back : (x : Element) (c : Closer) (t : Kind) (p : Place) (ss : Symbols) (vs : Values) (ts : List Terminal) → Backs (M.comma x c t ss vs) (token t p) ts (Holds ok (Symbol.Rest x c ∷ ss) (token t p ∷ ts))
-  comma_back x c (Kind.Mark Mark.Comma) p ss vs ts = λ o h. comma_item x c p ss ts h
-  comma_back x c _ p ss vs ts = tt
-
-  rest_back : (x : Element) (c : Closer) (t : Kind) (p : Place) (ss : Symbols) (vs : Values) (ts : List Terminal) → Backs (M.rest x c t ss vs) (token t p) ts (Holds ok (Symbol.Rest x c ∷ ss) (token t p ∷ ts))
-  rest_back x c t p ss vs ts = tested (closes c t) (λ is. closes_is c t is)
-    where
-      tested : (b : Bool) → (b ≡ true → t ≡ Kind.Mark (closing c)) → Backs (if b then Go ss vs [] else M.comma x c t ss vs) (token t p) ts (Holds ok (Symbol.Rest x c ∷ ss) (token t p ∷ ts))
-      tested true is = λ o h. subst (λ (u : Kind). Holds ok (Symbol.Rest x c ∷ ss) (token u p ∷ ts)) (sym (is refl)) (on (rest_none p) h)
-      tested false is = comma_back x c t p ss vs ts
-
-  -- lists
-
-  first_of_cells : (x : Term) (ss : Symbols) (ts : List Terminal) → Holds ok (Symbol.Item (Element.Term (deeper x)) ∷ Symbol.Make (Maker.Push (Element.Term (deeper x))) ∷ Symbol.CellsRest x ∷ ss) ts → Holds ok (Symbol.CellsFirst x ∷ ss) ts
-  first_of_cells x ss ts (on d (on make (on r h))) = on (cells_some d r) h
-
-  cells_first_back : (x : Term) (t : Kind) (p : Place) (ss : Symbols) (vs : Values) (ts : List Terminal) → Backs (M.cells_first x t p ss vs) (token t p) ts (Holds ok (Symbol.CellsFirst x ∷ ss) (token t p ∷ ts))
-  cells_first_back x (Kind.Mark Mark.CloseSquare) p ss vs ts = λ o h. on (cells_none p) h
-  cells_first_back x t p ss vs ts = widen (M.term (deeper x) t p (Symbol.Make (Maker.Push (Element.Term (deeper x))) ∷ Symbol.CellsRest x ∷ ss) vs) (token t p) ts (first_of_cells x ss (token t p ∷ ts)) (term_back (deeper x) t p (Symbol.Make (Maker.Push (Element.Term (deeper x))) ∷ Symbol.CellsRest x ∷ ss) vs ts)
-
-  tail_first_of_cells : (x : Term) (ss : Symbols) (ts : List Terminal) → Holds ok (Symbol.Item (Element.Term (deeper x)) ∷ Symbol.Make (Maker.Push (Element.Term (deeper x))) ∷ Symbol.CellsRest x ∷ ss) ts → Holds ok (Symbol.TailFirst x ∷ ss) ts
-  tail_first_of_cells x ss ts (on d (on make (on r h))) = on (tail_first (cells_some d r)) h
-
-  tail_first_back : (x : Term) (t : Kind) (p : Place) (ss : Symbols) (vs : Values) (ts : List Terminal) → Backs (M.tail_first x t p ss vs) (token t p) ts (Holds ok (Symbol.TailFirst x ∷ ss) (token t p ∷ ts))
-  tail_first_back x (Kind.Mark Mark.CloseSquare) p ss vs ts = λ o h. on (tail_first (cells_none p)) h
-  tail_first_back x t p ss vs ts = widen (M.term (deeper x) t p (Symbol.Make (Maker.Push (Element.Term (deeper x))) ∷ Symbol.CellsRest x ∷ ss) vs) (token t p) ts (tail_first_of_cells x ss (token t p ∷ ts)) (term_back (deeper x) t p (Symbol.Make (Maker.Push (Element.Term (deeper x))) ∷ Symbol.CellsRest x ∷ ss) vs ts)
-
-  cells_comma : (x : Term) (p : Place) (ss : Symbols) (ts : List Terminal) → Holds ok (Symbol.Item (Element.Term (deeper x)) ∷ Symbol.Make (Maker.Push (Element.Term (deeper x))) ∷ Symbol.CellsRest x ∷ ss) ts → Holds ok (Symbol.CellsRest x ∷ ss) (mark Mark.Comma p ∷ ts)
-  cells_comma x p ss ts (on d (on make (on r h))) = on (cells_more p d r) h
-
-  cells_bar : (x : Term) (p : Place) (ss : Symbols) (ts : List Terminal) → Holds ok (Symbol.Tail x ∷ Symbol.Wants Mark.CloseSquare ∷ ss) ts → Holds ok (Symbol.CellsRest x ∷ ss) (mark Mark.Bar p ∷ ts)
-  cells_bar x p ss ts (on (tail d) (on (wants _ q) h)) = on (cells_tail p q d) h
-
-  cells_rest_back : (x : Term) (t : Kind) (p : Place) (ss : Symbols) (vs : Values) (ts : List Terminal) → Backs (M.cells_rest x t ss vs) (token t p) ts (Holds ok (Symbol.CellsRest x ∷ ss) (token t p ∷ ts))
-  cells_rest_back x (Kind.Mark Mark.Comma) p ss vs ts = λ o h. cells_comma x p ss ts h
-  cells_rest_back x (Kind.Mark Mark.Bar) p ss vs ts = λ o h. cells_bar x p ss ts h
-  cells_rest_back x (Kind.Mark Mark.CloseSquare) p ss vs ts = λ o h. on (cells_end p) h
-  cells_rest_back x _ p ss vs ts = tt
-
-  tail_square : (x : Term) (p : Place) (ss : Symbols) (ts : List Terminal) → Holds ok (Symbol.TailFirst x ∷ ss) ts → ok (part (M.level_of x)) (mark Mark.OpenSquare p ∷ ts) ≡ true → Holds ok (Symbol.Tail x ∷ ss) (mark Mark.OpenSquare p ∷ ts)
-  tail_square (Term.Expression k) p ss ts (on {us = us} (tail_first d) h) o = elim (expression_list ok k p ts us o d) [ found_expression e ↦ on (tail (item_expression (G.expression_bare e))) h ]
-  tail_square (Term.Pattern k) p ss ts (on {us = us} (tail_first d) h) o = elim (pattern_list ok k p ts us o d) [ found_pattern f ↦ on (tail (item_pattern (G.pattern_bare f))) h ]
-  tail_square (Term.Constant k) p ss ts (on {us = us} (tail_first d) h) o = elim (constant_list ok k p ts us o d) [ found_constant c ↦ on (tail (item_constant c)) h ]
-
-  tail_open_back : (x : Term) (p : Place) (ss : Symbols) (vs : Values) (ts : List Terminal) → Backs (M.tail_open x ss vs) (mark Mark.OpenRound p) ts (Holds ok (Symbol.Tail x ∷ ss) (mark Mark.OpenRound p ∷ ts))
-  tail_open_back (Term.Expression k) p ss vs ts = λ o h. expression_tail_open h
-    where
-      expression_tail_open : Holds ok (Symbol.ExpressionTailInside k ∷ ss) ts → Holds ok (Symbol.Tail (Term.Expression k) ∷ ss) (mark Mark.OpenRound p ∷ ts)
-      expression_tail_open (on (expression_tail_inside g) h) = on (tail (item_expression (g p))) h
-  tail_open_back (Term.Pattern k) p ss vs ts = λ o h. pattern_tail_open h
-    where
-      pattern_tail_open : Holds ok (Symbol.PatternTailInside k ∷ ss) ts → Holds ok (Symbol.Tail (Term.Pattern k) ∷ ss) (mark Mark.OpenRound p ∷ ts)
-      pattern_tail_open (on (pattern_tail_inside g) h) = on (tail (item_pattern (g p))) h
-  tail_open_back (Term.Constant k) p ss vs ts = tt
-
-  tail_of_expression : (k : ℕ) (ss : Symbols) (ts : List Terminal) → Holds ok (Symbol.Bare (Part.Expression k) ∷ Symbol.Make (Maker.Join (Term.Expression k)) ∷ ss) ts → Holds ok (Symbol.Tail (Term.Expression k) ∷ ss) ts
-  tail_of_expression k ss ts (on (bare_expression d) (on make h)) = on (tail (item_expression (G.expression_bare d))) h
-
-  tail_of_pattern : (k : ℕ) (ss : Symbols) (ts : List Terminal) → HeldPattern k (Symbol.Make (Maker.Join (Term.Pattern k)) ∷ ss) ts → Holds ok (Symbol.Tail (Term.Pattern k) ∷ ss) ts
-  tail_of_pattern k ss ts (held_pattern d (on make h)) = on (tail (item_pattern (G.pattern_bare d))) h
-
-  tail_of_constant : (k : ℕ) (ss : Symbols) (ts : List Terminal) → Holds ok (Symbol.Bare (Part.Constant k) ∷ Symbol.Make (Maker.Join (Term.Constant k)) ∷ ss) ts → Holds ok (Symbol.Tail (Term.Constant k) ∷ ss) ts
-  tail_of_constant k ss ts (on (bare_constant d) (on make h)) = on (tail (item_constant d)) h
-
-  other_tail_back : (x : Term) (t : Kind) (p : Place) (ss : Symbols) (vs : Values) (ts : List Terminal) → Backs (M.other_tail x t p (Symbol.Make (Maker.Join x) ∷ ss) vs) (token t p) ts (Holds ok (Symbol.Tail x ∷ ss) (token t p ∷ ts))
-  other_tail_back (Term.Expression k) t p ss vs ts = widen (M.bare_expression k t p (Symbol.Make (Maker.Join (Term.Expression k)) ∷ ss) vs) (token t p) ts (tail_of_expression k ss (token t p ∷ ts)) (expression_back k t p (Symbol.Make (Maker.Join (Term.Expression k)) ∷ ss) vs ts)
-  other_tail_back (Term.Pattern k) t p ss vs ts = widen (M.bare_pattern k t p (Symbol.Make (Maker.Join (Term.Pattern k)) ∷ ss) vs) (token t p) ts (tail_of_pattern k ss (token t p ∷ ts)) (bare_pattern_back k t p (Symbol.Make (Maker.Join (Term.Pattern k)) ∷ ss) vs ts)
-  other_tail_back (Term.Constant k) t p ss vs ts = widen (M.constant k t p (Symbol.Make (Maker.Join (Term.Constant k)) ∷ ss) vs) (token t p) ts (tail_of_constant k ss (token t p ∷ ts)) (constant_back k t p (Symbol.Make (Maker.Join (Term.Constant k)) ∷ ss) vs ts)
-
-  tail_back : (x : Term) (t : Kind) (p : Place) (ss : Symbols) (vs : Values) (ts : List Terminal) → Backs (M.tail x t p ss vs) (token t p) ts (Holds ok (Symbol.Tail x ∷ ss) (token t p ∷ ts))
-  tail_back x (Kind.Mark Mark.OpenSquare) p ss vs ts = λ o h. tail_square x p ss ts h (alone _ o)
-  tail_back x (Kind.Mark Mark.OpenRound) p ss vs ts = tail_open_back x p ss vs ts
-  tail_back x t p ss vs ts = other_tail_back x t p ss vs ts
-
-  expression_inside_square : (k : ℕ) (p : Place) (ss : Symbols) (ts : List Terminal) → Holds ok (Symbol.TailFirst (Term.Expression k) ∷ annotation ss) ts → ok (part k) (mark Mark.OpenSquare p ∷ ts) ≡ true → Holds ok (Symbol.ExpressionTailInside k ∷ ss) (mark Mark.OpenSquare p ∷ ts)
-  expression_inside_square k p ss ts (on {us = us} (tail_first d) h) o = elim (expression_list ok k p ts us o d) [ found_expression e ↦ elim (annotation_of ok ss us h) [ held_annotation n i ↦ on (expression_tail_inside (λ q. G.expression_annotated q e n)) i ] ]
-
-  expression_inside : (k : ℕ) (ss : Symbols) (ts : List Terminal) → Holds ok (Symbol.Bare (Part.Expression k) ∷ Symbol.Make (Maker.Join (Term.Expression k)) ∷ annotation ss) ts → Holds ok (Symbol.ExpressionTailInside k ∷ ss) ts
-  expression_inside k ss ts (on (bare_expression d) (on {ts = us} make h)) = elim (annotation_of ok ss us h) [ held_annotation n i ↦ on (expression_tail_inside (λ q. G.expression_annotated q d n)) i ]
-
-  expression_tail_inside_back : (k : ℕ) (t : Kind) (p : Place) (ss : Symbols) (vs : Values) (ts : List Terminal) → Backs (M.expression_tail_inside k t p ss vs) (token t p) ts (Holds ok (Symbol.ExpressionTailInside k ∷ ss) (token t p ∷ ts))
-  expression_tail_inside_back k (Kind.Mark Mark.OpenSquare) p ss vs ts = λ o h. expression_inside_square k p ss ts h (alone _ o)
-  expression_tail_inside_back k t p ss vs ts = widen (M.bare_expression k t p (Symbol.Make (Maker.Join (Term.Expression k)) ∷ annotation ss) vs) (token t p) ts (expression_inside k ss (token t p ∷ ts)) (expression_back k t p (Symbol.Make (Maker.Join (Term.Expression k)) ∷ annotation ss) vs ts)
-
-  pattern_inside_square : (k : ℕ) (p : Place) (ss : Symbols) (ts : List Terminal) → Holds ok (Symbol.TailFirst (Term.Pattern k) ∷ annotation ss) ts → ok (part k) (mark Mark.OpenSquare p ∷ ts) ≡ true → Holds ok (Symbol.PatternTailInside k ∷ ss) (mark Mark.OpenSquare p ∷ ts)
-  pattern_inside_square k p ss ts (on {us = us} (tail_first d) h) o = elim (pattern_list ok k p ts us o d) [ found_pattern f ↦ elim (annotation_of ok ss us h) [ held_annotation n i ↦ on (pattern_tail_inside (λ q. G.pattern_annotated q f n)) i ] ]
-
-  pattern_inside_other : (k : ℕ) (ss : Symbols) (ts : List Terminal) → Holds ok (Symbol.PatternInside k ∷ Symbol.Make (Maker.Join (Term.Pattern k)) ∷ ss) ts → Holds ok (Symbol.PatternTailInside k ∷ ss) ts
-  pattern_inside_other k ss ts (on (pattern_inside g) (on make h)) = on (pattern_tail_inside g) h
-
-  pattern_inside_plain : (k : ℕ) (ss : Symbols) (ts : List Terminal) → HeldPattern k (Symbol.Make (Maker.Join (Term.Pattern k)) ∷ annotation ss) ts → Holds ok (Symbol.PatternTailInside k ∷ ss) ts
-  pattern_inside_plain k ss ts (held_pattern d (on {ts = us} make h)) = elim (annotation_of ok ss us h) [ held_annotation n i ↦ on (pattern_tail_inside (λ q. G.pattern_annotated q d n)) i ]
-
-  pattern_tail_inside_back : (k : ℕ) (t : Kind) (p : Place) (ss : Symbols) (vs : Values) (ts : List Terminal) → Backs (M.pattern_tail_inside k t p ss vs) (token t p) ts (Holds ok (Symbol.PatternTailInside k ∷ ss) (token t p ∷ ts))
-  pattern_tail_inside_back k (Kind.Mark Mark.OpenSquare) p ss vs ts = λ o h. pattern_inside_square k p ss ts h (alone _ o)
-  pattern_tail_inside_back k (Kind.Variable x) p ss vs ts = λ o h. pattern_inside_other k ss (token (Kind.Variable x) p ∷ ts) (pattern_inside_back k (Kind.Variable x) p (Symbol.Make (Maker.Join (Term.Pattern k)) ∷ ss) vs ts o h)
-  pattern_tail_inside_back k (Kind.Mark Mark.OpenRound) p ss vs ts = λ o h. pattern_inside_other k ss (mark Mark.OpenRound p ∷ ts) (pattern_inside_back k (Kind.Mark Mark.OpenRound) p (Symbol.Make (Maker.Join (Term.Pattern k)) ∷ ss) vs ts o h)
-  pattern_tail_inside_back k t p ss vs ts = widen (M.plain_pattern k t p (Symbol.Make (Maker.Join (Term.Pattern k)) ∷ annotation ss) vs) (token t p) ts (pattern_inside_plain k ss (token t p ∷ ts)) (plain_back k t p (Symbol.Make (Maker.Join (Term.Pattern k)) ∷ annotation ss) vs ts)
-
-  -- variables
-
-  variables_less : (p : Place) (ss : Symbols) (ts : List Terminal) → Holds ok (Symbol.First Element.Variable Closer.Angle ∷ ss) ts → Holds ok (Symbol.Variables ∷ ss) (mark Mark.Less p ∷ ts)
-  variables_less p ss ts (on {us = us} d h) = elim (variables_of ok Closer.Angle ts us d) [ all_variables q xs ↦ on (variables (G.value_variables p q xs)) h ]
-
-  variables_one : (ss : Symbols) (ts : List Terminal) → Holds ok (Symbol.Annotated Part.Variable ∷ Symbol.Make Maker.OneVariable ∷ ss) ts → Holds ok (Symbol.Variables ∷ ss) ts
-  variables_one ss ts (on (variable d) (on make h)) = on (variables (G.one_variable d)) h
-
-  variables_back : (t : Kind) (p : Place) (ss : Symbols) (vs : Values) (ts : List Terminal) → Backs (M.variables t p ss vs) (token t p) ts (Holds ok (Symbol.Variables ∷ ss) (token t p ∷ ts))
-  variables_back (Kind.Mark Mark.Less) p ss vs ts = λ o h. variables_less p ss ts h
-  variables_back t p ss vs ts = widen (M.annotated Part.Variable t p (Symbol.Make Maker.OneVariable ∷ ss) vs) (token t p) ts (variables_one ss (token t p ∷ ts)) (annotated_back Part.Variable t p (Symbol.Make Maker.OneVariable ∷ ss) vs ts)
+  -- a terminal's move
+  pub move_back : (ss : Symbols) (vs : Values) (t : Kind) (p : Place) (ts : List Terminal) → Backs ok (move ss vs t p) (token t p) ts (Holds ok ss (token t p ∷ ts))
+  move_back [] vs t p ts = tt
+  move_back (Symbol.Wants m ∷ ss) vs t p ts = wants_back m t p ss vs ts
+  move_back (Symbol.Annotated x ∷ ss) vs t p ts = annotated_back ok x t p ss vs ts
+  move_back (Symbol.Bare x ∷ ss) vs t p ts = bare_back ok x t p ss vs ts
+  move_back (Symbol.AfterAtom ∷ ss) vs t p ts = after_atom_back ok t p ss vs ts (move ss (literal vs) t p) (move_back ss (literal vs) t p ts)
+  move_back (Symbol.Arity ∷ ss) vs t p ts = arity_back ok t p ss vs ts
+  move_back (Symbol.Item x ∷ ss) vs t p ts = item_back ok x t p ss vs ts
+  move_back (Symbol.First x c ∷ ss) vs t p ts = first_back ok x c t p ss vs ts
+  move_back (Symbol.Rest x c ∷ ss) vs t p ts = rest_back ok x c t p ss vs ts
+  move_back (Symbol.CellsFirst x ∷ ss) vs t p ts = cells_first_back ok x t p ss vs ts
+  move_back (Symbol.CellsRest x ∷ ss) vs t p ts = cells_rest_back ok x t p ss vs ts
+  move_back (Symbol.Tail x ∷ ss) vs t p ts = tail_back ok x t p ss vs ts
+  move_back (Symbol.ExpressionTailInside k ∷ ss) vs t p ts = expression_tail_inside_back ok k t p ss vs ts
+  move_back (Symbol.PatternTailInside k ∷ ss) vs t p ts = pattern_tail_inside_back ok k t p ss vs ts
+  move_back (Symbol.TailFirst x ∷ ss) vs t p ts = tail_first_back ok x t p ss vs ts
+  move_back (Symbol.Variables ∷ ss) vs t p ts = variables_back ok t p ss vs ts
+  move_back (Symbol.Pattern k ∷ ss) vs t p ts = pattern_back ok k t p ss vs ts
+  move_back (Symbol.PatternInside k ∷ ss) vs t p ts = pattern_inside_back ok k t p ss vs ts
+  move_back (Symbol.PatternInsideVariable k ∷ ss) vs t p ts = pattern_inside_variable_back ok k t p ss vs ts
+  move_back (Symbol.AliasName k ∷ ss) vs t p ts = alias_name_back ok k t p ss vs ts
+  move_back (Symbol.AfterVariable k ∷ ss) vs t p ts = after_variable_back ok k t p ss vs ts (move ss (variable_pattern vs) t p) (move_back ss (variable_pattern vs) t p ts)
+  move_back (Symbol.Clause k ∷ ss) vs t p ts = clause_back k t p ss vs ts
+  move_back (Symbol.ClauseInside k ∷ ss) vs t p ts = clause_inside_back k t p ss vs ts
+  move_back (Symbol.ClauseInsideVariable k ∷ ss) vs t p ts = clause_inside_variable_back k t p ss vs ts
+  move_back (Symbol.ClauseTwiceInside k ∷ ss) vs t p ts = clause_twice_inside_back k t p ss vs ts
+  move_back (Symbol.ClauseTwiceInsideVariable k ∷ ss) vs t p ts = clause_twice_inside_variable_back k t p ss vs ts
+  move_back (Symbol.ClauseTwiceInsideAnnotated k ∷ ss) vs t p ts = clause_twice_inside_annotated_back k t p ss vs ts
+  move_back (Symbol.ClauseMiddle k ∷ ss) vs t p ts = clause_middle_back k t p ss vs ts
+  move_back (Symbol.ClausesRest k ∷ ss) vs t p ts = clauses_rest_back k t p ss vs ts
+  move_back (Symbol.Definitions k ∷ ss) vs t p ts = definitions_back k t p ss vs ts (move ss vs t p) (move_back ss vs t p ts)
+  move_back (Symbol.ModuleEnd ∷ ss) vs t p ts = module_end_back ok t p ss vs ts
+  move_back (Symbol.ArgumentsFirst ∷ ss) vs t p ts = arguments_first_back t p ss vs ts
+  move_back (Symbol.Argument i ∷ ss) vs t p ts = argument_back i t p ss vs ts
+  move_back (Symbol.ArgumentsRest i ∷ ss) vs t p ts = arguments_rest_back i t p ss vs ts
+  move_back (Symbol.Make maker ∷ ss) vs t p ts = skip_back maker (token t p) ss ts (move ss (made maker vs) t p) (move_back ss (made maker vs) t p ts)
