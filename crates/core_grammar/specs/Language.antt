@@ -52,23 +52,16 @@ Viable ok us = (ws : List Terminal) × (m : Module) × Derives ok (us ++ ws) m
 abbrev pub Fine : ℕ → List Terminal → Type 0
 Fine n us = (ws : List Terminal) × (m : Module) × Derives (within n (length ws)) (us ++ ws) m
 
--- what Core Erlang has and the profile hasn't: floats, `receive`, `#` and `~`
+-- a float, `receive`, `#` or `~`
 abbrev pub is_foreign : Kind → Bool
-is_foreign Kind.Float = true
-is_foreign (Kind.Mark Mark.Receive) = true
-is_foreign (Kind.Mark Mark.Hash) = true
-is_foreign (Kind.Mark Mark.Tilde) = true
+is_foreign Kind.Foreign = true
 is_foreign _ = false
 
-abbrev pub is_variable : Kind → Bool
-is_variable (Kind.Variable x) = true
-is_variable _ = false
-
--- a terminal that stands for a part which the profile hasn't: such a terminal where an integer could stand, or a variable
--- as the module or the name of a `call`
+-- a terminal that begins what Core Erlang has and the profile hasn't: a foreign one where an integer could stand, or a
+-- variable as the module or the name of a `call`
 pub data IsOutside (us : List Terminal) (t : Terminal) : Type 0 where
   foreign_part : is_foreign t.kind ≡ true → Viable any (us ++ token (Kind.Natural 0) t.at ∷ []) → IsOutside us t
-  operand_of_call : is_variable t.kind ≡ true → Viable any_operand (us ++ t ∷ []) → IsOutside us t
+  operand_of_call : Viable any_operand (us ++ t ∷ []) → IsOutside us t
 
 -- why no module goes on with a terminal, or a part of too high a level begins with it
 abbrev pub Stops : ℕ → List Terminal → Terminal → Fault → Type 0

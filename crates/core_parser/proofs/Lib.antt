@@ -2,6 +2,7 @@ mod Backs
 mod Cells
 mod Constants
 mod Elements
+mod Ends
 mod Examples
 mod Expressions
 mod Meaning

@@ -390,27 +390,24 @@ code Mark.Letrec = 11
 code Mark.Module = 12
 code Mark.Of = 13
 code Mark.Primop = 14
-code Mark.Receive = 15
-code Mark.Timeout = 16
-code Mark.Try = 17
-code Mark.When = 18
-code Mark.OpenRound = 19
-code Mark.CloseRound = 20
-code Mark.OpenBrace = 21
-code Mark.CloseBrace = 22
-code Mark.OpenSquare = 23
-code Mark.CloseSquare = 24
-code Mark.Less = 25
-code Mark.Greater = 26
-code Mark.Comma = 27
-code Mark.Equals = 28
-code Mark.Slash = 29
-code Mark.Colon = 30
-code Mark.Bar = 31
-code Mark.Hash = 32
-code Mark.Tilde = 33
-code Mark.Arrow = 34
-code Mark.Dash = 35
+code Mark.Timeout = 15
+code Mark.Try = 16
+code Mark.When = 17
+code Mark.OpenRound = 18
+code Mark.CloseRound = 19
+code Mark.OpenBrace = 20
+code Mark.CloseBrace = 21
+code Mark.OpenSquare = 22
+code Mark.CloseSquare = 23
+code Mark.Less = 24
+code Mark.Greater = 25
+code Mark.Comma = 26
+code Mark.Equals = 27
+code Mark.Slash = 28
+code Mark.Colon = 29
+code Mark.Bar = 30
+code Mark.Arrow = 31
+code Mark.Dash = 32
 
 abbrev pub wants : Mark → Kind → Symbols → Values → Move
 wants m (Kind.Mark n) ss vs = if code m == code n then Go ss vs [] else No false
@@ -468,10 +465,15 @@ abbrev pub all_ok : Leave → List Need → List Terminal → Bool
 all_ok ok [] ts = true
 all_ok ok (need ∷ needs) ts = ok need ts && all_ok ok needs ts
 
+-- a variable is the module or the name of a `call`
+abbrev pub has_operand : List Need → Bool
+has_operand [] = false
+has_operand (variable_operand ∷ needs) = true
+has_operand (need ∷ needs) = has_operand needs
+
 -- why there is no leave
 abbrev pub why_not : List Need → Fault
-why_not (variable_operand ∷ needs) = Fault.NotInProfile
-why_not _ = Fault.TooDeep
+why_not needs = if has_operand needs then Fault.NotInProfile else Fault.TooDeep
 
 abbrev pub Answer : Type 0
 Answer = Result Values (Fault × Place)
