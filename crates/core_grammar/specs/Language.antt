@@ -1,5 +1,5 @@
 -- Which lists of terminals are modules and calls, and where the others are refused.
-use Rattle.std.specs.Prelude.{◌≡◌, ℕ, List, [], ◌∷◌, ◌++◌, length, Bool, true, false, ◌||◌, nat_le}
+use Rattle.std.specs.Prelude.{◌≡◌, ℕ, List, [], ◌∷◌, ◌++◌, length, Bool, true, false, ◌||◌, nat_le, Result, Ok, Err}
 use Rattle.hipe_terms.specs.declared.place.Place.{Place}
 use Rattle.hipe_terms.specs.declared.constant.Call.{Call}
 use Rattle.core_ast.specs.declared.tree.Module.{Module}
@@ -82,3 +82,14 @@ FineCall n us = (ws : List Terminal) × (c : Call) × DerivesCall (within n (len
 pub data RefusedCall (n : ℕ) (z : Place) (ts : List Terminal) : Place → Type 0 where
   call_at_terminal : (us : List Terminal) (t : Terminal) (ws : List Terminal) → ts ≡ us ++ t ∷ ws → FineCall n us → ¬ FineCall n (us ++ t ∷ []) → RefusedCall n z ts t.at
   call_at_text_end : FineCall n ts → ((c : Call) → DerivesCall any ts c → ⊥) → RefusedCall n z ts z
+
+-- what a list of terminals that ends at z is read as: the one module that it is derived as with no level above n, or why and
+-- where it is refused
+abbrev pub IsAnswer : ℕ → Place → List Terminal → Result Module (Fault × Place) → Type 0
+IsAnswer n z ts (Ok m) = Derives (limit n) ts m
+IsAnswer n z ts (Err (f, p)) = Refused n z ts f p × ((m : Module) → ¬ Derives (limit n) ts m)
+
+-- the same for a call
+abbrev pub IsCallAnswer : ℕ → Place → List Terminal → Result Call Place → Type 0
+IsCallAnswer n z ts (Ok c) = DerivesCall (limit n) ts c
+IsCallAnswer n z ts (Err p) = RefusedCall n z ts p × ((c : Call) → ¬ DerivesCall (limit n) ts c)

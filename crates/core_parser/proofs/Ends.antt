@@ -1,5 +1,5 @@
 -- Each symbol has a short end, and where a foreign terminal stops, an integer says why.
-use Rattle.std.proofs.Common.{◌≡◌, ℕ, pos, suc, ◌+◌, ◌≤◌, ◌<◌, List, [], ◌∷◌, ◌++◌, length, Bool, true, false, ◌&&◌, if◌then◌else◌, refl, ap, sym, ◌∙◌, arith}
+use Rattle.std.proofs.Common.{◌≡◌, ℕ, pos, suc, ◌+◌, ◌≤◌, ◌<◌, List, [], ◌∷◌, ◌++◌, length, Bool, true, false, ◌&&◌, not, if◌then◌else◌, refl, ap, sym, ◌∙◌, arith}
 use Rattle.hipe_terms.specs.declared.place.Place.{Place}
 use Rattle.hipe_terms.specs.declared.constant.Constant.TheOpen.{Constant-F}
 use Rattle.core_ast.specs.declared.pattern.Var.{Var}
@@ -21,7 +21,7 @@ use Rattle.core_parser.specs.declared.symbol.Part.{Part}
 use Rattle.core_parser.specs.declared.symbol.Symbol.{Symbol}
 use Rattle.core_parser.specs.declared.symbol.Term.{Term}
 use Rattle.core_parser.specs.Values.{Values, literal, variable_pattern, made}
-use Rattle.core_parser.specs.Machine.{Symbols, Move, Go, No, goes, move, closes, deeper}
+use Rattle.core_parser.specs.Machine.{Symbols, Move, Go, No, goes, has_operand, move, closes, deeper}
 use Rattle.core_parser.specs.Machine as M
 use Rattle.core_parser.proofs.Steps.{closing}
 use Rattle.core_parser.proofs.Meaning.{Sat, wants, make, bare_module, bare_name, bare_atom, bare_operand, bare_variable, bare_constant, bare_fun, bare_expression, module', name, atom, operand, variable, constant, fun, expression, no_arity, arity, item_variable, item_export, item_attribute, item_expression, item_pattern, item_constant, first_none, rest_none, cells_none, cells_end, tail, expression_tail_inside, pattern_tail_inside, tail_first, variables, pattern', pattern_inside, pattern_inside_variable, alias_name, no_alias, clause, clause_inside, clause_inside_variable, clause_twice_inside, clause_twice_inside_variable, clause_twice_inside_annotated, clause_middle, clauses_none, definitions, module_end, arguments_first, argument', arguments_none, Holds, done, on, of_variable}
@@ -84,6 +84,57 @@ foreign_stops (Symbol.AfterVariable k ∷ ss) vs p = foreign_stops ss (variable_
 foreign_stops (Symbol.Definitions k ∷ ss) vs p = foreign_stops ss vs p
 foreign_stops (Symbol.Make maker ∷ ss) vs p = foreign_stops ss (made maker vs) p
 foreign_stops (s ∷ ss) vs p = refl
+
+-- an integer is no operand of a `call`
+
+abbrev pub operand_free : Move → Bool
+operand_free (No integer) = true
+operand_free (Go ss vs needs) = not (has_operand needs)
+
+bare_is_free : (x : Part) (ss : Symbols) (vs : Values) (p : Place) → operand_free (M.bare x (Kind.Natural 0) p ss vs) ≡ true
+bare_is_free Part.Module ss vs p = refl
+bare_is_free Part.Name ss vs p = refl
+bare_is_free Part.Atom ss vs p = refl
+bare_is_free Part.Operand ss vs p = refl
+bare_is_free Part.Variable ss vs p = refl
+bare_is_free (Part.Constant k) ss vs p = refl
+bare_is_free (Part.Fun k) ss vs p = refl
+bare_is_free (Part.Expression k) ss vs p = refl
+
+term_is_free : (x : Term) (ss : Symbols) (vs : Values) (p : Place) → operand_free (M.term x (Kind.Natural 0) p ss vs) ≡ true
+term_is_free (Term.Expression k) ss vs p = refl
+term_is_free (Term.Pattern k) ss vs p = refl
+term_is_free (Term.Constant k) ss vs p = refl
+
+item_is_free : (x : Element) (ss : Symbols) (vs : Values) (p : Place) → operand_free (M.item x (Kind.Natural 0) p ss vs) ≡ true
+item_is_free Element.Variable ss vs p = refl
+item_is_free Element.Export ss vs p = refl
+item_is_free Element.Attribute ss vs p = refl
+item_is_free (Element.Term x) ss vs p = term_is_free x ss vs p
+
+other_tail_is_free : (x : Term) (ss : Symbols) (vs : Values) (p : Place) → operand_free (M.other_tail x (Kind.Natural 0) p ss vs) ≡ true
+other_tail_is_free (Term.Expression k) ss vs p = refl
+other_tail_is_free (Term.Pattern k) ss vs p = refl
+other_tail_is_free (Term.Constant k) ss vs p = refl
+
+choice_is_free : {a : Bool} (x f : Move) → a ≡ false → operand_free f ≡ true → operand_free (if a then x else f) ≡ true
+choice_is_free x f is h = ap (λ a. operand_free (if a then x else f)) is ∙ h
+
+pub integer_is_free : (ss : Symbols) (vs : Values) (p : Place) → operand_free (move ss vs (Kind.Natural 0) p) ≡ true
+integer_is_free [] vs p = refl
+integer_is_free (Symbol.Annotated x ∷ ss) vs p = bare_is_free x ss vs p
+integer_is_free (Symbol.Bare x ∷ ss) vs p = bare_is_free x ss vs p
+integer_is_free (Symbol.AfterAtom ∷ ss) vs p = integer_is_free ss (literal vs) p
+integer_is_free (Symbol.Item x ∷ ss) vs p = item_is_free x ss vs p
+integer_is_free (Symbol.First x c ∷ ss) vs p = choice_is_free (Go ss vs []) _ (integer_closes_none c) (item_is_free x (Symbol.Make (Maker.Push x) ∷ Symbol.Rest x c ∷ ss) vs p)
+integer_is_free (Symbol.Rest x c ∷ ss) vs p = choice_is_free (Go ss vs []) (No false) (integer_closes_none c) refl
+integer_is_free (Symbol.CellsFirst x ∷ ss) vs p = term_is_free (deeper x) (Symbol.Make (Maker.Push (Element.Term (deeper x))) ∷ Symbol.CellsRest x ∷ ss) vs p
+integer_is_free (Symbol.TailFirst x ∷ ss) vs p = term_is_free (deeper x) (Symbol.Make (Maker.Push (Element.Term (deeper x))) ∷ Symbol.CellsRest x ∷ ss) vs p
+integer_is_free (Symbol.Tail x ∷ ss) vs p = other_tail_is_free x (Symbol.Make (Maker.Join x) ∷ ss) vs p
+integer_is_free (Symbol.AfterVariable k ∷ ss) vs p = integer_is_free ss (variable_pattern vs) p
+integer_is_free (Symbol.Definitions k ∷ ss) vs p = integer_is_free ss vs p
+integer_is_free (Symbol.Make maker ∷ ss) vs p = integer_is_free ss (made maker vs) p
+integer_is_free (s ∷ ss) vs p = refl
 
 -- ends
 

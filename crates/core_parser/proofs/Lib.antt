@@ -1,3 +1,4 @@
+mod Answering
 mod Backs
 mod Cells
 mod Constants
@@ -7,6 +8,7 @@ mod Examples
 mod Expressions
 mod Meaning
 mod Modules
+mod Refusing
 mod Sound
 mod Patterns
 mod Steps

@@ -2,7 +2,9 @@
 use Rattle.std.specs.Prelude.{ℕ, pos, ◌+◌, ◌==◌, List, [], ◌∷◌, Bool, true, false, ◌&&◌, if◌then◌else◌, Result, Ok, Err}
 use Rattle.hipe_terms.specs.declared.place.Place.{Place}
 use Rattle.hipe_terms.specs.declared.constant.Constant.TheOpen.{Constant-F}
+use Rattle.hipe_terms.specs.declared.constant.Call.{Call}
 use Rattle.core_ast.specs.declared.pattern.PatNode.TheOpen.{PatNode-F}
+use Rattle.core_ast.specs.declared.tree.Module.{Module}
 use Rattle.core_ast.specs.declared.tree.Node.TheOpen.{Node-F}
 use Rattle.core_grammar.specs.declared.fault.Fault.{Fault}
 use Rattle.core_grammar.specs.declared.terminal.Kind.{Kind}
@@ -19,7 +21,7 @@ use Rattle.core_parser.specs.declared.symbol.Part.{Part}
 use Rattle.core_parser.specs.declared.symbol.Symbol.{Symbol}
 use Rattle.core_parser.specs.declared.symbol.Term.{Term}
 use Rattle.core_parser.specs.declared.value.Value.{Value}
-use Rattle.core_parser.specs.Values.{Values, no_cells, all_cells, continued, literal, with_arity, case, one_pattern, variable_pattern, whole_module, whole_call, made}
+use Rattle.core_parser.specs.Values.{Values, top, to_module, to_call, no_cells, all_cells, continued, literal, with_arity, case, one_pattern, variable_pattern, whole_module, whole_call, made}
 
 -- the stack of symbols, the next one first
 abbrev pub Symbols : Type 0
@@ -505,3 +507,13 @@ moved (Moved.Begins k) ss vs = Go ss vs (part k ∷ [])
 moved (Moved.Argument i k) ss vs = Go ss vs (argument i ∷ part k ∷ [])
 moved Moved.Operand ss vs = Go ss vs (variable_operand ∷ [])
 moved (Moved.Stuck integer) ss vs = No integer
+
+-- a run as an answer
+
+abbrev pub module_read : Answer → Result Module (Fault × Place)
+module_read (Ok vs) = Ok (to_module (top vs))
+module_read (Err x) = Err x
+
+abbrev pub call_read : Answer → Result Call Place
+call_read (Ok vs) = Ok (to_call (top vs))
+call_read (Err x) = Err x.1
