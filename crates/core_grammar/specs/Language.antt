@@ -5,7 +5,6 @@ use Rattle.hipe_terms.specs.declared.constant.Call.{Call}
 use Rattle.core_ast.specs.declared.tree.Module.{Module}
 use Rattle.core_grammar.specs.declared.fault.Fault.{Fault}
 use Rattle.core_grammar.specs.declared.terminal.Kind.{Kind}
-use Rattle.core_grammar.specs.declared.terminal.Mark.{Mark}
 use Rattle.core_grammar.specs.declared.terminal.Terminal.{Terminal}
 use Rattle.core_grammar.specs.Leave.{part, variable_operand, argument, Leave, token}
 use Rattle.core_grammar.specs.Grammar.{ModuleOf, CallOf}

@@ -1,17 +1,15 @@
 -- Where the moves of parts, patterns, elements and lists lead, the grammar leads.
-use Rattle.std.proofs.Common.{◌≡◌, ℕ, ℤ, pos, ◌+◌, ◌==◌, List, [], ◌∷◌, ◌++◌, Bool, true, false, ◌&&◌, if◌then◌else◌, refl, ap, sym, ◌∙◌, subst, get_or}
-use Rattle.std.proofs.lemmas.Bool.{eqb-true}
+use Rattle.std.proofs.Common.{◌≡◌, ℕ, ◌+◌, List, [], ◌∷◌, Bool, true, false, ◌&&◌, if◌then◌else◌, refl, ap, sym, ◌∙◌, subst, get_or}
 use Rattle.hipe_terms.specs.declared.place.Place.{Place}
 use Rattle.core_ast.specs.declared.pattern.Var.{Var}
 use Rattle.core_ast.specs.declared.pattern.Pattern.{Pattern}
 use Rattle.core_ast.specs.declared.pattern.PatNode.TheOpen.{PatNode-F}
-use Rattle.core_ast.specs.declared.tree.Clause.{Clause}
 use Rattle.core_ast.specs.declared.tree.Expr.{Expr}
 use Rattle.core_grammar.specs.declared.terminal.Kind.{Kind}
 use Rattle.core_grammar.specs.declared.terminal.Mark.{Mark}
 use Rattle.core_grammar.specs.declared.terminal.Terminal.{Terminal}
-use Rattle.core_grammar.specs.Trees.{variable_at, pattern_at, name_of, clause_at}
-use Rattle.core_grammar.specs.Leave.{Need, part, variable_operand, argument, Leave, token, mark}
+use Rattle.core_grammar.specs.Trees.{variable_at, pattern_at, name_of}
+use Rattle.core_grammar.specs.Leave.{part, Leave, token, mark}
 use Rattle.core_grammar.specs.Grammar as G
 use Rattle.core_parser.specs.declared.symbol.Closer.{Closer}
 use Rattle.core_parser.specs.declared.symbol.Element.{Element}
@@ -19,11 +17,11 @@ use Rattle.core_parser.specs.declared.symbol.Maker.{Maker}
 use Rattle.core_parser.specs.declared.symbol.Part.{Part}
 use Rattle.core_parser.specs.declared.symbol.Symbol.{Symbol}
 use Rattle.core_parser.specs.declared.symbol.Term.{Term}
-use Rattle.core_parser.specs.Values.{Values, literal, variable_pattern, made}
+use Rattle.core_parser.specs.Values.{Values}
 use Rattle.core_parser.specs.Machine.{Symbols, Move, Go, No, move, all_ok, code, closes, also, deeper, annotation, annotation_list, guarded, when_guarded, one_when_guarded, alias_of, arguments, argument_pushed, defined}
 use Rattle.core_parser.specs.Machine as M
 use Rattle.core_parser.proofs.Steps.{closing}
-use Rattle.core_parser.proofs.Meaning.{Sat, wants, make, bare_module, bare_name, bare_atom, bare_operand, bare_variable, bare_constant, bare_fun, bare_expression, module', name, atom, operand, variable, constant, fun, expression, no_arity, slash, arity, item_variable, item_export, item_attribute, item_expression, item_pattern, item_constant, first_none, first_some, rest_none, rest_more, cells_none, cells_some, cells_end, cells_more, cells_tail, tail, expression_tail_inside, pattern_tail_inside, tail_first, variables, pattern', pattern_inside, pattern_inside_variable, alias_name, no_alias, equals, clause, clause_inside, clause_inside_variable, clause_twice_inside, clause_twice_inside_variable, clause_twice_inside_annotated, clause_middle, clauses_none, clauses_some, definitions, module_end, arguments_first, argument', arguments_none, arguments_some, Holds, done, on, of_variable, expressions_of, all_expressions, patterns_of, all_patterns, constants_of, all_constants, variables_of, all_variables, exports_of, all_exports, attributes_of, all_attributes, expression_list, found_expression, pattern_list, found_pattern, constant_list, found_constant, annotation_list_of, annotation_of, held_annotation, arguments_of, HeldArguments, held_arguments, guarded_of, held_guarded}
+use Rattle.core_parser.proofs.Meaning.{wants, make, bare_module, bare_name, bare_atom, bare_operand, bare_variable, bare_constant, bare_fun, bare_expression, module', name, atom, operand, variable, constant, fun, expression, no_arity, slash, arity, item_variable, item_export, item_attribute, item_expression, item_pattern, item_constant, first_none, first_some, rest_none, rest_more, cells_none, cells_some, cells_end, cells_more, cells_tail, tail, expression_tail_inside, pattern_tail_inside, tail_first, variables, pattern', pattern_inside, pattern_inside_variable, alias_name, no_alias, equals, clause, clauses_none, clauses_some, definitions, module_end, Holds, on, of_variable, expressions_of, all_expressions, patterns_of, all_patterns, constants_of, all_constants, variables_of, all_variables, exports_of, all_exports, attributes_of, all_attributes, expression_list, found_expression, pattern_list, found_pattern, constant_list, found_constant, annotation_list_of, annotation_of, held_annotation, arguments_of, HeldArguments, held_arguments}
 
 -- words and signs by their codes
 
@@ -342,8 +340,9 @@ module _ (ok : Leave) where
 
   inside_dash : (k : ℕ) (p : Place) (ss : Symbols) (ts : List Terminal) → Holds ok (annotation_list (Symbol.AfterVariable k ∷ ss)) ts → Holds ok (Symbol.PatternInsideVariable k ∷ ss) (mark Mark.Dash p ∷ ts)
   inside_dash k p ss ts h = elim (annotation_list_of ok p (Symbol.AfterVariable k ∷ ss) ts h) [
-      held_annotation n (on no_alias i) ↦ on (pattern_inside_variable (λ x. pattern_at x.at (PatNode-F.Var x.name)) (λ r x o. G.pattern_annotated r (G.pattern_variable x.name x.at o) n)) i
-    | held_annotation n (on (equals {f = f} q d) i) ↦ on (pattern_inside_variable (λ x. pattern_at x.at (PatNode-F.Alias x f)) (λ r x o. G.pattern_bare (G.pattern_alias {x = x} q o (G.annotated r G.variable n) d))) i ]
+    | held_annotation n (on no_alias i) ↦ on (pattern_inside_variable (λ x. pattern_at x.at (PatNode-F.Var x.name)) (λ r x o. G.pattern_annotated r (G.pattern_variable x.name x.at o) n)) i
+    | held_annotation n (on (equals {f = f} q d) i) ↦ on (pattern_inside_variable (λ x. pattern_at x.at (PatNode-F.Alias x f)) (λ r x o. G.pattern_bare (G.pattern_alias {x = x} q o (G.annotated r G.variable n) d))) i
+  ]
 
   pub pattern_inside_variable_back : (k : ℕ) (t : Kind) (p : Place) (ss : Symbols) (vs : Values) (ts : List Terminal) → Backs (M.pattern_inside_variable k t ss vs) (token t p) ts (Holds ok (Symbol.PatternInsideVariable k ∷ ss) (token t p ∷ ts))
   pattern_inside_variable_back k (Kind.Mark Mark.Equals) p ss vs ts = λ o h. inside_equals k p ss ts h

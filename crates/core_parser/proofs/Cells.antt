@@ -1,18 +1,18 @@
 -- Runs over lists, whose tails go on with the elements before them.
-use Rattle.std.proofs.Common.{◌≡◌, ℕ, List, [], ◌∷◌, ◌++◌, Bool, true, false, ◌&&◌, if◌then◌else◌, Ok, Err, refl, ap, sym, ◌∙◌, append_assoc}
+use Rattle.std.proofs.Common.{◌≡◌, List, [], ◌∷◌, ◌++◌, true, refl, ◌∙◌}
 use Rattle.hipe_terms.specs.declared.place.Place.{Place}
 use Rattle.core_grammar.specs.declared.terminal.Kind.{Kind}
 use Rattle.core_grammar.specs.declared.terminal.Mark.{Mark}
 use Rattle.core_grammar.specs.declared.terminal.Terminal.{Terminal}
 use Rattle.core_grammar.specs.Leave.{Leave, part, mark}
-use Rattle.core_grammar.specs.Grammar.{SomeOf, last_of, more_of, ListOf, none_of, some_of}
+use Rattle.core_grammar.specs.Grammar.{SomeOf}
 use Rattle.core_parser.specs.declared.symbol.Element.{Element}
 use Rattle.core_parser.specs.declared.symbol.Maker.{Maker}
 use Rattle.core_parser.specs.declared.symbol.Symbol.{Symbol}
 use Rattle.core_parser.specs.declared.symbol.Term.{Term}
 use Rattle.core_parser.specs.declared.value.Value.{Value}
-use Rattle.core_parser.specs.Values.{Values, pushed, all_cells, continued}
-use Rattle.core_parser.specs.Machine.{Symbols, Move, Go, No, move, gone, all_ok, run, deeper, level_of}
+use Rattle.core_parser.specs.Values.{Values, pushed, all_cells}
+use Rattle.core_parser.specs.Machine.{Symbols, move, run, deeper, level_of}
 use Rattle.core_parser.proofs.Steps.{allowed, begins, calm, opens, same, made_as}
 use Rattle.core_parser.proofs.Elements.{ItemRuns, elements_run, some_open}
 
@@ -37,7 +37,6 @@ module _ (ok : Leave) (z : Place) where
       × ((es : List A) (q p : Place) (ss : Symbols) (vs : Values) → begins calm us ≡ true → run ok z (Symbol.Tail x ∷ ss) (held es ∷ Value.At q ∷ Value.At p ∷ vs) ts ≡ run ok z ss (one (cells p es a) ∷ vs) us)
 
   module _ (A : Type 0) (x : Term) (one : A → Value) (held : List A → Value) (cells : Place → List A → A → A) (ended : Place → Place → List A → A) (push : (a : A) (as' : List A) (vs : Values) → pushed (Element.Term (deeper x)) (one a ∷ held as' ∷ vs) ≡ held (as' ++ a ∷ []) ∷ vs) (closed : (es : List A) (q p : Place) (vs : Values) → all_cells x (held es ∷ Value.At q ∷ Value.At p ∷ vs) ≡ one (ended p q es) ∷ vs) where
-
     part_runs : (a : A) (ts us : List Terminal) → TermRuns A (deeper x) one held cells a ts us → ItemRuns ok z A (Element.Term (deeper x)) (λ a vs. one a ∷ vs) a ts us
     part_runs a ts us d = (d.0, d.1)
 

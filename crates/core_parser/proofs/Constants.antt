@@ -1,5 +1,5 @@
 -- Runs over constants, annotations, names and variables.
-use Rattle.std.proofs.Common.{◌≡◌, ℕ, ℤ, pos, ◌+◌, List, [], ◌∷◌, ◌++◌, map, Bool, true, false, ◌&&◌, if◌then◌else◌, Ok, Err, refl, ap, sym, ◌∙◌, append_assoc}
+use Rattle.std.proofs.Common.{◌≡◌, ℕ, ◌+◌, List, [], ◌∷◌, ◌++◌, true, refl, ap, sym, ◌∙◌, append_assoc}
 use Rattle.hipe_terms.specs.declared.place.Place.{Place}
 use Rattle.hipe_terms.specs.declared.constant.Constant.{Constant, out-Constant, out-roll-Constant}
 use Rattle.hipe_terms.specs.declared.constant.Constant.TheOpen.{Constant-F}
@@ -8,8 +8,8 @@ use Rattle.core_ast.specs.declared.tree.FunName.{FunName}
 use Rattle.core_grammar.specs.declared.terminal.Kind.{Kind}
 use Rattle.core_grammar.specs.declared.terminal.Mark.{Mark}
 use Rattle.core_grammar.specs.declared.terminal.Terminal.{Terminal}
-use Rattle.core_grammar.specs.Trees.{constant_of, constant_cells, constant_cells_before, constant_nil, constant_text, constant_character}
-use Rattle.core_grammar.specs.Leave.{Leave, part, token, mark}
+use Rattle.core_grammar.specs.Trees.{constant_of, constant_cells, constant_cells_before, constant_nil}
+use Rattle.core_grammar.specs.Leave.{Leave, part, mark}
 use Rattle.core_grammar.specs.Grammar as G
 use Rattle.core_parser.specs.declared.symbol.Closer.{Closer}
 use Rattle.core_parser.specs.declared.symbol.Element.{Element}
@@ -19,7 +19,7 @@ use Rattle.core_parser.specs.declared.symbol.Symbol.{Symbol}
 use Rattle.core_parser.specs.declared.symbol.Term.{Term}
 use Rattle.core_parser.specs.declared.value.Value.{Value}
 use Rattle.core_parser.specs.Values.{Values}
-use Rattle.core_parser.specs.Machine.{Symbols, Move, move, run, annotation, annotation_list}
+use Rattle.core_parser.specs.Machine.{Symbols, move, run, annotation, annotation_list}
 use Rattle.core_parser.proofs.Steps as Steps
 use Rattle.core_parser.proofs.Steps.{allowed, begins, calm, filled, opens, opens_bare, opens_other, same, makes, made_as}
 use Rattle.core_parser.proofs.Elements as Elements
@@ -72,38 +72,45 @@ module _ (ok : Leave) (z : Place) where
 
   -- a constant that begins with neither `[` nor `(`
   other_runs : (k : ℕ) (c : Constant) (ts us : List Terminal) → begins opens ts ≡ true → begins opens_other ts ≡ true → ((ss : Symbols) (vs : Values) → begins calm us ≡ true → run ok z (Symbol.Item (Element.Term (Term.Constant k)) ∷ ss) vs ts ≡ run ok z ss (Value.Constant c ∷ vs) us) → ConstantRuns k c ts us
-  other_runs k c ts us o other r = (o, r, λ es q p ss vs h.
-      same ok z opens_other (Symbol.Tail (Term.Constant k) ∷ ss) (Symbol.Item (Element.Term (Term.Constant k)) ∷ Symbol.Make (Maker.Join (Term.Constant k)) ∷ ss) (Value.Constants es ∷ Value.At q ∷ Value.At p ∷ vs) (Value.Constants es ∷ Value.At q ∷ Value.At p ∷ vs) (other_joins k ss (Value.Constants es ∷ Value.At q ∷ Value.At p ∷ vs)) ts other
-      ∙ r (Symbol.Make (Maker.Join (Term.Constant k)) ∷ ss) (Value.Constants es ∷ Value.At q ∷ Value.At p ∷ vs) h
-      ∙ makes ok z calm (Maker.Join (Term.Constant k)) ss (Value.Constant c ∷ Value.Constants es ∷ Value.At q ∷ Value.At p ∷ vs) us h)
+  other_runs k c ts us o other r = (
+    o,
+    r,
+    λ es q p ss vs h.
+        same ok z opens_other (Symbol.Tail (Term.Constant k) ∷ ss) (Symbol.Item (Element.Term (Term.Constant k)) ∷ Symbol.Make (Maker.Join (Term.Constant k)) ∷ ss) (Value.Constants es ∷ Value.At q ∷ Value.At p ∷ vs) (Value.Constants es ∷ Value.At q ∷ Value.At p ∷ vs) (other_joins k ss (Value.Constants es ∷ Value.At q ∷ Value.At p ∷ vs)) ts other
+        ∙ r (Symbol.Make (Maker.Join (Term.Constant k)) ∷ ss) (Value.Constants es ∷ Value.At q ∷ Value.At p ∷ vs) h
+        ∙ makes ok z calm (Maker.Join (Term.Constant k)) ss (Value.Constant c ∷ Value.Constants es ∷ Value.At q ∷ Value.At p ∷ vs) us h,
+  )
 
   -- constants in `{..}`
   pub constant_list_runs : (k : ℕ) (c : Closer) (cs : List Constant) (ts us : List Terminal) (p : Place) → G.ListOf Constant (ConstantRuns k) cs ts (mark (Steps.closing c) p ∷ us) → (ss : Symbols) (vs : Values) → run ok z (Symbol.First (Element.Term (Term.Constant k)) c ∷ ss) (Value.Constants [] ∷ vs) ts ≡ run ok z ss (Value.Constants cs ∷ vs) us
   constant_list_runs k = Elements.list_runs ok z Constant (ConstantRuns k) (Element.Term (Term.Constant k)) (λ c vs. Value.Constant c ∷ vs) Value.Constants (λ c cs vs. refl) (constant_item k)
 
   list_is_read : (k : ℕ) (cs : List Constant) (ts us : List Terminal) (p q : Place) → ok (part k) (mark Mark.OpenSquare p ∷ ts) ≡ true → G.SomeOf Constant (ConstantRuns (k + 1)) cs ts (mark Mark.CloseSquare q ∷ us) → ConstantRuns k (constant_of (Constant-F.List cs constant_nil)) (mark Mark.OpenSquare p ∷ ts) us
-  list_is_read k cs ts us p q h d =
-      (refl,
-        (λ ss vs c. allowed h _ _ ∙ Cells.list_runs ok z Constant (Term.Constant k) Value.Constant Value.Constants before ended (λ c cs vs. refl) (λ es q p vs. refl) cs ts us q d p ss vs),
-        (λ es o r ss vs c.
-            Cells.tail_list_runs ok z Constant (Term.Constant k) Value.Constant Value.Constants before ended (λ c cs vs. refl) (λ es q p vs. refl) p q cs ts us h d es o r ss vs
-            ∙ ap (λ x. run ok z ss (Value.Constant x ∷ vs) us) (sym (list_joins es cs constant_nil))))
+  list_is_read k cs ts us p q h d = (
+    refl,
+    (λ ss vs c. allowed h _ _ ∙ Cells.list_runs ok z Constant (Term.Constant k) Value.Constant Value.Constants before ended (λ c cs vs. refl) (λ es q p vs. refl) cs ts us q d p ss vs),
+    (λ es o r ss vs c.
+        Cells.tail_list_runs ok z Constant (Term.Constant k) Value.Constant Value.Constants before ended (λ c cs vs. refl) (λ es q p vs. refl) p q cs ts us h d es o r ss vs
+        ∙ ap (λ x. run ok z ss (Value.Constant x ∷ vs) us) (sym (list_joins es cs constant_nil))),
+  )
 
   before_is_read : (k : ℕ) (cs : List Constant) (e : Constant) (ts us ws : List Terminal) (p q r : Place) → ok (part k) (mark Mark.OpenSquare p ∷ ts) ≡ true → G.SomeOf Constant (ConstantRuns (k + 1)) cs ts (mark Mark.Bar q ∷ us) → ConstantRuns k e us (mark Mark.CloseSquare r ∷ ws) → ConstantRuns k (constant_cells cs e) (mark Mark.OpenSquare p ∷ ts) ws
-  before_is_read k cs e ts us ws p q r h d f =
-      (refl,
-        (λ ss vs c. allowed h _ _ ∙ Cells.list_before_runs ok z Constant (Term.Constant k) Value.Constant Value.Constants before ended (λ c cs vs. refl) (λ es q p vs. refl) cs e ts us ws q r d f p ss vs),
-        (λ es o t ss vs c.
-            Cells.tail_list_before_runs ok z Constant (Term.Constant k) Value.Constant Value.Constants before ended (λ c cs vs. refl) (λ es q p vs. refl) p q r cs e ts us ws h d f es o t ss vs
-            ∙ ap (λ x. run ok z ss (Value.Constant x ∷ vs) ws) (sym (cells_join es cs e))))
+  before_is_read k cs e ts us ws p q r h d f = (
+    refl,
+    (λ ss vs c. allowed h _ _ ∙ Cells.list_before_runs ok z Constant (Term.Constant k) Value.Constant Value.Constants before ended (λ c cs vs. refl) (λ es q p vs. refl) cs e ts us ws q r d f p ss vs),
+    (λ es o t ss vs c.
+        Cells.tail_list_before_runs ok z Constant (Term.Constant k) Value.Constant Value.Constants before ended (λ c cs vs. refl) (λ es q p vs. refl) p q r cs e ts us ws h d f es o t ss vs
+        ∙ ap (λ x. run ok z ss (Value.Constant x ∷ vs) ws) (sym (cells_join es cs e))),
+  )
 
   empty_is_read : (k : ℕ) (us : List Terminal) (p q : Place) → ok (part k) (mark Mark.OpenSquare p ∷ mark Mark.CloseSquare q ∷ us) ≡ true → ConstantRuns k constant_nil (mark Mark.OpenSquare p ∷ mark Mark.CloseSquare q ∷ us) us
-  empty_is_read k us p q h =
-      (refl,
-        (λ ss vs c. allowed h _ _),
-        (λ es o r ss vs c.
-            Cells.empty_tail_runs ok z Constant (Term.Constant k) Value.Constant Value.Constants before ended (λ c cs vs. refl) (λ es q p vs. refl) p q us h es o r ss vs
-            ∙ ap (λ x. run ok z ss (Value.Constant x ∷ vs) us) (sym (nil_joins es))))
+  empty_is_read k us p q h = (
+    refl,
+    (λ ss vs c. allowed h _ _),
+    (λ es o r ss vs c.
+        Cells.empty_tail_runs ok z Constant (Term.Constant k) Value.Constant Value.Constants before ended (λ c cs vs. refl) (λ es q p vs. refl) p q us h es o r ss vs
+        ∙ ap (λ x. run ok z ss (Value.Constant x ∷ vs) us) (sym (nil_joins es))),
+  )
 
   mutual
     pub constant_runs : (k : ℕ) (c : Constant) (ts us : List Terminal) → G.ConstantOf ok k c ts us → ConstantRuns k c ts us

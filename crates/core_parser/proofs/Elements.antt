@@ -1,5 +1,5 @@
 -- Runs over elements with commas.
-use Rattle.std.proofs.Common.{◌≡◌, ℕ, List, [], ◌∷◌, ◌++◌, Bool, true, false, ◌&&◌, if◌then◌else◌, Ok, Err, refl, ap, sym, ◌∙◌, append_assoc}
+use Rattle.std.proofs.Common.{◌≡◌, List, [], ◌∷◌, ◌++◌, true, if◌then◌else◌, refl, ap, ◌∙◌, append_assoc}
 use Rattle.hipe_terms.specs.declared.place.Place.{Place}
 use Rattle.core_grammar.specs.declared.terminal.Kind.{Kind}
 use Rattle.core_grammar.specs.declared.terminal.Mark.{Mark}
@@ -12,8 +12,8 @@ use Rattle.core_parser.specs.declared.symbol.Maker.{Maker}
 use Rattle.core_parser.specs.declared.symbol.Symbol.{Symbol}
 use Rattle.core_parser.specs.declared.value.Value.{Value}
 use Rattle.core_parser.specs.Values.{Values, pushed, empty}
-use Rattle.core_parser.specs.Machine.{Symbols, Move, Go, No, move, gone, all_ok, run, Answer, item, comma, first, rest, closes}
-use Rattle.core_parser.proofs.Steps.{begins, filled, calm, opens, opens_calm, is_filled, closing, it_closes, comma_closes_none, closing_is_calm, opener_closes_none, same, makes, made_as}
+use Rattle.core_parser.specs.Machine.{Symbols, Go, move, gone, all_ok, run, item, comma}
+use Rattle.core_parser.proofs.Steps.{begins, filled, calm, opens, is_filled, closing, it_closes, comma_closes_none, closing_is_calm, opener_closes_none, same, makes, made_as}
 
 first_is_item : (x : Element) (c : Closer) (ss : Symbols) (vs : Values) (t : Kind) (p : Place) → opens t ≡ true → move (Symbol.First x c ∷ ss) vs t p ≡ move (Symbol.Item x ∷ Symbol.Make (Maker.Push x) ∷ Symbol.Rest x c ∷ ss) vs t p
 first_is_item x c ss vs t p h = ap (λ b. if b then Go ss vs [] else item x t p (Symbol.Make (Maker.Push x) ∷ Symbol.Rest x c ∷ ss) vs) (opener_closes_none c t h)

@@ -1,5 +1,5 @@
 -- Each symbol has a short end, and where a foreign terminal stops, an integer says why.
-use Rattle.std.proofs.Common.{◌≡◌, ℕ, pos, suc, ◌+◌, ◌≤◌, ◌<◌, List, [], ◌∷◌, ◌++◌, length, Bool, true, false, ◌&&◌, not, if◌then◌else◌, refl, ap, sym, ◌∙◌, arith}
+use Rattle.std.proofs.Common.{◌≡◌, ℕ, pos, suc, ◌+◌, ◌≤◌, List, [], ◌∷◌, length, Bool, true, false, not, if◌then◌else◌, refl, ap, sym, ◌∙◌, arith}
 use Rattle.hipe_terms.specs.declared.place.Place.{Place}
 use Rattle.hipe_terms.specs.declared.constant.Constant.TheOpen.{Constant-F}
 use Rattle.core_ast.specs.declared.pattern.Var.{Var}
@@ -12,7 +12,7 @@ use Rattle.core_grammar.specs.declared.terminal.Kind.{Kind}
 use Rattle.core_grammar.specs.declared.terminal.Mark.{Mark}
 use Rattle.core_grammar.specs.declared.terminal.Terminal.{Terminal}
 use Rattle.core_grammar.specs.Trees.{constant_of, fun_at, variable_at, pattern_at, expression_at, name_of, clause_at}
-use Rattle.core_grammar.specs.Leave.{Need, part, argument, Leave, token, mark}
+use Rattle.core_grammar.specs.Leave.{part, argument, Leave, token, mark}
 use Rattle.core_grammar.specs.Grammar as G
 use Rattle.core_parser.specs.declared.symbol.Closer.{Closer}
 use Rattle.core_parser.specs.declared.symbol.Element.{Element}

@@ -1,9 +1,6 @@
 -- Runs by hand.
-use Rattle.std.proofs.Common.{◌≡◌, ℕ, List, [], ◌∷◌, ◌++◌, true, Ok, Err, refl}
+use Rattle.std.proofs.Common.{◌≡◌, [], ◌∷◌, Ok, Err, refl}
 use Rattle.core_grammar.specs.declared.fault.Fault.{Fault}
-use Rattle.core_grammar.specs.declared.terminal.Kind.{Kind}
-use Rattle.core_grammar.specs.declared.terminal.Mark.{Mark}
-use Rattle.core_grammar.specs.Leave.{token, mark}
 use Rattle.core_grammar.specs.Language.{limit}
 use Rattle.core_grammar.specs.Examples.{at, one_line, one_module}
 use Rattle.core_parser.specs.declared.value.Value.{Value}

@@ -1,20 +1,18 @@
 -- Runs over expressions, clauses, funs and definitions.
-use Rattle.std.proofs.Common.{◌≡◌, ℕ, ℤ, pos, ◌+◌, List, [], ◌∷◌, ◌++◌, map, Bool, true, false, ◌&&◌, if◌then◌else◌, Ok, Err, refl, ap, sym, ◌∙◌, append_assoc, append-nil}
+use Rattle.std.proofs.Common.{◌≡◌, ℕ, ◌+◌, List, [], ◌∷◌, ◌++◌, Bool, true, false, refl, ap, sym, ◌∙◌, append_assoc, append-nil}
 use Rattle.hipe_terms.specs.declared.place.Place.{Place}
-use Rattle.core_ast.specs.declared.pattern.Var.{Var}
 use Rattle.core_ast.specs.declared.pattern.Pattern.{Pattern}
 use Rattle.core_ast.specs.declared.tree.Clause.{Clause}
 use Rattle.core_ast.specs.declared.tree.Expr.{Expr}
 use Rattle.core_ast.specs.declared.tree.Fun.{Fun}
 use Rattle.core_ast.specs.declared.tree.FunDef.{FunDef}
-use Rattle.core_ast.specs.declared.tree.FunName.{FunName}
 use Rattle.core_ast.specs.declared.tree.Node.{Node, out-Node, out-roll-Node}
 use Rattle.core_ast.specs.declared.tree.Node.TheOpen.{Node-F}
 use Rattle.core_grammar.specs.declared.terminal.Kind.{Kind}
 use Rattle.core_grammar.specs.declared.terminal.Mark.{Mark}
 use Rattle.core_grammar.specs.declared.terminal.Terminal.{Terminal}
-use Rattle.core_grammar.specs.Trees.{expression_at, cells, cells_before, nil_at, text_at, clause_at, fun_at, definition_at}
-use Rattle.core_grammar.specs.Leave.{Leave, part, token, mark}
+use Rattle.core_grammar.specs.Trees.{expression_at, cells, cells_before, nil_at, clause_at, fun_at}
+use Rattle.core_grammar.specs.Leave.{Leave, part, mark}
 use Rattle.core_grammar.specs.Grammar as G
 use Rattle.core_parser.specs.declared.symbol.Closer.{Closer}
 use Rattle.core_parser.specs.declared.symbol.Element.{Element}
@@ -111,48 +109,59 @@ module _ (ok : Leave) (z : Place) where
       × ((es : List Expr) (q p : Place) (ss : Symbols) (vs : Values) → begins calm us ≡ true → run ok z (Symbol.Tail (Term.Expression k) ∷ ss) (Value.Expressions es ∷ Value.At q ∷ Value.At p ∷ vs) ts ≡ run ok z ss (Value.Expression (cells p es e) ∷ vs) us)
 
   bare_is_read : (k : ℕ) (e : Expr) (ts us : List Terminal) → BareExpressionRuns k e ts us → ExpressionRuns k e ts us
-  bare_is_read k e ts us d = (bare_opens ts d.0,
-      (λ ss vs c. same ok z opens_bare (Symbol.Item (Element.Term (Term.Expression k)) ∷ ss) (Symbol.Bare (Part.Expression k) ∷ ss) vs vs (item_is_bare k ss vs) ts d.0 ∙ d.1 ss vs c),
-      d.2)
+  bare_is_read k e ts us d = (
+    bare_opens ts d.0,
+    (λ ss vs c. same ok z opens_bare (Symbol.Item (Element.Term (Term.Expression k)) ∷ ss) (Symbol.Bare (Part.Expression k) ∷ ss) vs vs (item_is_bare k ss vs) ts d.0 ∙ d.1 ss vs c),
+    d.2,
+  )
 
   annotated_is_read : (k : ℕ) (e : Expr) (ts us ws : List Terminal) (o : Place) → BareExpressionRuns k e ts us → G.Annotation ok us ws → ExpressionRuns k e (mark Mark.OpenRound o ∷ ts) ws
-  annotated_is_read k e ts us ws o d n = (refl,
-      (λ ss vs c. d.1 (annotation ss) vs (annotation_calm ok z us ws n) ∙ annotation_runs ok z us ws n ss (Value.Expression e ∷ vs)),
-      (λ es q p ss vs c.
-          same ok z opens_bare (Symbol.ExpressionTailInside k ∷ ss) (Symbol.Tail (Term.Expression k) ∷ annotation ss) (Value.Expressions es ∷ Value.At q ∷ Value.At p ∷ vs) (Value.Expressions es ∷ Value.At q ∷ Value.At p ∷ vs) (tail_inside_is_tail k ss (Value.Expressions es ∷ Value.At q ∷ Value.At p ∷ vs)) ts d.0
-          ∙ d.2 es q p (annotation ss) vs (annotation_calm ok z us ws n)
-          ∙ annotation_runs ok z us ws n ss (Value.Expression (cells p es e) ∷ vs)))
+  annotated_is_read k e ts us ws o d n = (
+    refl,
+    (λ ss vs c. d.1 (annotation ss) vs (annotation_calm ok z us ws n) ∙ annotation_runs ok z us ws n ss (Value.Expression e ∷ vs)),
+    (λ es q p ss vs c.
+        same ok z opens_bare (Symbol.ExpressionTailInside k ∷ ss) (Symbol.Tail (Term.Expression k) ∷ annotation ss) (Value.Expressions es ∷ Value.At q ∷ Value.At p ∷ vs) (Value.Expressions es ∷ Value.At q ∷ Value.At p ∷ vs) (tail_inside_is_tail k ss (Value.Expressions es ∷ Value.At q ∷ Value.At p ∷ vs)) ts d.0
+        ∙ d.2 es q p (annotation ss) vs (annotation_calm ok z us ws n)
+        ∙ annotation_runs ok z us ws n ss (Value.Expression (cells p es e) ∷ vs)),
+  )
 
   -- an expression that isn't a list
   other_runs : (k : ℕ) (e : Expr) (ts us : List Terminal) → begins opens_bare ts ≡ true → begins opens_other ts ≡ true → ((ss : Symbols) (vs : Values) → begins calm us ≡ true → run ok z (Symbol.Bare (Part.Expression k) ∷ ss) vs ts ≡ run ok z ss (Value.Expression e ∷ vs) us) → BareExpressionRuns k e ts us
-  other_runs k e ts us o other r = (o, r, λ es q p ss vs h.
-      same ok z opens_other (Symbol.Tail (Term.Expression k) ∷ ss) (Symbol.Bare (Part.Expression k) ∷ Symbol.Make (Maker.Join (Term.Expression k)) ∷ ss) (Value.Expressions es ∷ Value.At q ∷ Value.At p ∷ vs) (Value.Expressions es ∷ Value.At q ∷ Value.At p ∷ vs) (other_joins k ss (Value.Expressions es ∷ Value.At q ∷ Value.At p ∷ vs)) ts other
-      ∙ r (Symbol.Make (Maker.Join (Term.Expression k)) ∷ ss) (Value.Expressions es ∷ Value.At q ∷ Value.At p ∷ vs) h
-      ∙ makes ok z calm (Maker.Join (Term.Expression k)) ss (Value.Expression e ∷ Value.Expressions es ∷ Value.At q ∷ Value.At p ∷ vs) us h)
+  other_runs k e ts us o other r = (
+    o,
+    r,
+    λ es q p ss vs h.
+        same ok z opens_other (Symbol.Tail (Term.Expression k) ∷ ss) (Symbol.Bare (Part.Expression k) ∷ Symbol.Make (Maker.Join (Term.Expression k)) ∷ ss) (Value.Expressions es ∷ Value.At q ∷ Value.At p ∷ vs) (Value.Expressions es ∷ Value.At q ∷ Value.At p ∷ vs) (other_joins k ss (Value.Expressions es ∷ Value.At q ∷ Value.At p ∷ vs)) ts other
+        ∙ r (Symbol.Make (Maker.Join (Term.Expression k)) ∷ ss) (Value.Expressions es ∷ Value.At q ∷ Value.At p ∷ vs) h
+        ∙ makes ok z calm (Maker.Join (Term.Expression k)) ss (Value.Expression e ∷ Value.Expressions es ∷ Value.At q ∷ Value.At p ∷ vs) us h,
+  )
 
   list_is_read : (k : ℕ) (fs : List Expr) (ts us : List Terminal) (p q : Place) → ok (part k) (mark Mark.OpenSquare p ∷ ts) ≡ true → G.SomeOf Expr (ExpressionRuns (k + 1)) fs ts (mark Mark.CloseSquare q ∷ us) → BareExpressionRuns k (expression_at p (Node-F.List fs (nil_at p))) (mark Mark.OpenSquare p ∷ ts) us
-  list_is_read k fs ts us p q h d =
-      (refl,
-        (λ ss vs c. allowed h _ _ ∙ Cells.list_runs ok z Expr (Term.Expression k) Value.Expression Value.Expressions before ended (λ f fs vs. refl) (λ es q p vs. refl) fs ts us q d p ss vs),
-        (λ es o r ss vs c.
-            Cells.tail_list_runs ok z Expr (Term.Expression k) Value.Expression Value.Expressions before ended (λ f fs vs. refl) (λ es q p vs. refl) p q fs ts us h d es o r ss vs
-            ∙ ap (λ x. run ok z ss (Value.Expression x ∷ vs) us) (sym (list_joins r p es fs (nil_at p)))))
+  list_is_read k fs ts us p q h d = (
+    refl,
+    (λ ss vs c. allowed h _ _ ∙ Cells.list_runs ok z Expr (Term.Expression k) Value.Expression Value.Expressions before ended (λ f fs vs. refl) (λ es q p vs. refl) fs ts us q d p ss vs),
+    (λ es o r ss vs c.
+        Cells.tail_list_runs ok z Expr (Term.Expression k) Value.Expression Value.Expressions before ended (λ f fs vs. refl) (λ es q p vs. refl) p q fs ts us h d es o r ss vs
+        ∙ ap (λ x. run ok z ss (Value.Expression x ∷ vs) us) (sym (list_joins r p es fs (nil_at p)))),
+  )
 
   before_is_read : (k : ℕ) (fs : List Expr) (e : Expr) (ts us ws : List Terminal) (p q r : Place) → ok (part k) (mark Mark.OpenSquare p ∷ ts) ≡ true → G.SomeOf Expr (ExpressionRuns (k + 1)) fs ts (mark Mark.Bar q ∷ us) → ExpressionRuns k e us (mark Mark.CloseSquare r ∷ ws) → BareExpressionRuns k (cells p fs e) (mark Mark.OpenSquare p ∷ ts) ws
-  before_is_read k fs e ts us ws p q r h d f =
-      (refl,
-        (λ ss vs c. allowed h _ _ ∙ Cells.list_before_runs ok z Expr (Term.Expression k) Value.Expression Value.Expressions before ended (λ f fs vs. refl) (λ es q p vs. refl) fs e ts us ws q r d f p ss vs),
-        (λ es o t ss vs c.
-            Cells.tail_list_before_runs ok z Expr (Term.Expression k) Value.Expression Value.Expressions before ended (λ f fs vs. refl) (λ es q p vs. refl) p q r fs e ts us ws h d f es o t ss vs
-            ∙ ap (λ x. run ok z ss (Value.Expression x ∷ vs) ws) (sym (cells_join t p es fs e))))
+  before_is_read k fs e ts us ws p q r h d f = (
+    refl,
+    (λ ss vs c. allowed h _ _ ∙ Cells.list_before_runs ok z Expr (Term.Expression k) Value.Expression Value.Expressions before ended (λ f fs vs. refl) (λ es q p vs. refl) fs e ts us ws q r d f p ss vs),
+    (λ es o t ss vs c.
+        Cells.tail_list_before_runs ok z Expr (Term.Expression k) Value.Expression Value.Expressions before ended (λ f fs vs. refl) (λ es q p vs. refl) p q r fs e ts us ws h d f es o t ss vs
+        ∙ ap (λ x. run ok z ss (Value.Expression x ∷ vs) ws) (sym (cells_join t p es fs e))),
+  )
 
   empty_is_read : (k : ℕ) (us : List Terminal) (p q : Place) → ok (part k) (mark Mark.OpenSquare p ∷ mark Mark.CloseSquare q ∷ us) ≡ true → BareExpressionRuns k (nil_at p) (mark Mark.OpenSquare p ∷ mark Mark.CloseSquare q ∷ us) us
-  empty_is_read k us p q h =
-      (refl,
-        (λ ss vs c. allowed h _ _),
-        (λ es o r ss vs c.
-            Cells.empty_tail_runs ok z Expr (Term.Expression k) Value.Expression Value.Expressions before ended (λ f fs vs. refl) (λ es q p vs. refl) p q us h es o r ss vs
-            ∙ ap (λ x. run ok z ss (Value.Expression x ∷ vs) us) (sym (nil_joins r p es))))
+  empty_is_read k us p q h = (
+    refl,
+    (λ ss vs c. allowed h _ _),
+    (λ es o r ss vs c.
+        Cells.empty_tail_runs ok z Expr (Term.Expression k) Value.Expression Value.Expressions before ended (λ f fs vs. refl) (λ es q p vs. refl) p q us h es o r ss vs
+        ∙ ap (λ x. run ok z ss (Value.Expression x ∷ vs) us) (sym (nil_joins r p es))),
+  )
 
   -- E
   expression_run : (k : ℕ) (e : Expr) (ts us : List Terminal) → ExpressionRuns k e ts us → (ss : Symbols) (vs : Values) → begins calm us ≡ true → run ok z (expression k ss) vs ts ≡ run ok z ss (Value.Expression e ∷ vs) us
@@ -306,23 +315,29 @@ module _ (ok : Leave) (z : Place) where
         (r.0, λ bs ss vs h. r.1 bs (Symbol.ClausesRest k ∷ ss) vs h)
     clauses_run k cs ts us (G.more_clauses {c = c} {cs = ds} {us = xs} d t) =
         let r = clause_runs k c ts xs d in
-        let rs = clauses_run k ds xs us t in
-        (r.0, λ bs ss vs h.
-            r.1 bs (Symbol.ClausesRest k ∷ ss) vs (opens_calm xs rs.0)
-            ∙ same ok z opens (Symbol.ClausesRest k ∷ ss) (Symbol.Clause k ∷ Symbol.ClausesRest k ∷ ss) (Value.Clauses (bs ++ c ∷ []) ∷ vs) (Value.Clauses (bs ++ c ∷ []) ∷ vs) (rest_is_clause k ss (Value.Clauses (bs ++ c ∷ []) ∷ vs)) xs rs.0
-            ∙ rs.1 (bs ++ c ∷ []) ss vs h
-            ∙ ap (λ xs. run ok z (Symbol.ClausesRest k ∷ ss) (Value.Clauses xs ∷ vs) us) (append_assoc bs (c ∷ []) ds))
+        let rs = clauses_run k ds xs us t in (
+          r.0,
+          λ bs ss vs h.
+              r.1 bs (Symbol.ClausesRest k ∷ ss) vs (opens_calm xs rs.0)
+              ∙ same ok z opens (Symbol.ClausesRest k ∷ ss) (Symbol.Clause k ∷ Symbol.ClausesRest k ∷ ss) (Value.Clauses (bs ++ c ∷ []) ∷ vs) (Value.Clauses (bs ++ c ∷ []) ∷ vs) (rest_is_clause k ss (Value.Clauses (bs ++ c ∷ []) ∷ vs)) xs rs.0
+              ∙ rs.1 (bs ++ c ∷ []) ss vs h
+              ∙ ap (λ xs. run ok z (Symbol.ClausesRest k ∷ ss) (Value.Clauses xs ∷ vs) us) (append_assoc bs (c ∷ []) ds),
+        )
 
     clause_runs : (k : ℕ) (c : Clause) (ts us : List Terminal) → G.ClauseOf ok k c ts us → ClauseRuns k c ts us
-    clause_runs k c ts us (G.clause_bare (G.clause {p = p} {fs = fs} {g = g} {e = e} {us = as'} {vs = bs} q r d t f)) =
-        (head_opens ok z k p fs ts _ d, λ cs ss vs h.
-            head_runs ok z k p fs ts as' q d ss (Value.Clauses cs ∷ vs)
-            ∙ guarded_run k p fs g e as' bs us r (expression_runs (k + 1) g as' _ t) (expression_runs (k + 1) e bs us f) cs ss vs h)
-    clause_runs k c ts us (G.clause_annotated {ts = xs} {us = ys} o (G.clause {p = p} {fs = fs} {g = g} {e = e} {us = as'} {vs = bs} q r d t f) n) =
-        (refl, λ cs ss vs h.
-            head_inside_runs ok z k p fs xs as' q d ss (Value.Clauses cs ∷ vs)
-            ∙ guarded_run k p fs g e as' bs ys r (expression_runs (k + 1) g as' _ t) (expression_runs (k + 1) e bs ys f) cs (annotation ss) vs (annotation_calm ok z ys us n)
-            ∙ annotation_runs ok z ys us n ss (Value.Clauses (cs ++ c ∷ []) ∷ vs))
+    clause_runs k c ts us (G.clause_bare (G.clause {p = p} {fs = fs} {g = g} {e = e} {us = as'} {vs = bs} q r d t f)) = (
+      head_opens ok z k p fs ts _ d,
+      λ cs ss vs h.
+          head_runs ok z k p fs ts as' q d ss (Value.Clauses cs ∷ vs)
+          ∙ guarded_run k p fs g e as' bs us r (expression_runs (k + 1) g as' _ t) (expression_runs (k + 1) e bs us f) cs ss vs h,
+    )
+    clause_runs k c ts us (G.clause_annotated {ts = xs} {us = ys} o (G.clause {p = p} {fs = fs} {g = g} {e = e} {us = as'} {vs = bs} q r d t f) n) = (
+      refl,
+      λ cs ss vs h.
+          head_inside_runs ok z k p fs xs as' q d ss (Value.Clauses cs ∷ vs)
+          ∙ guarded_run k p fs g e as' bs ys r (expression_runs (k + 1) g as' _ t) (expression_runs (k + 1) e bs ys f) cs (annotation ss) vs (annotation_calm ok z ys us n)
+          ∙ annotation_runs ok z ys us n ss (Value.Clauses (cs ++ c ∷ []) ∷ vs),
+    )
 
     lambda_runs : (k : ℕ) (p : Place) (f : Fun) (ts us : List Terminal) → G.BareFun ok k p f ts us → BareExpressionRuns k (expression_at p (Node-F.Lambda f)) ts us
     lambda_runs k p f ts us (G.«fun» {xs = xs} {e = g} {ts = as'} {us = bs} p' q r s h v d) = other_runs k (expression_at p (Node-F.Lambda f)) ts us refl refl (λ ss vs c.
@@ -333,11 +348,14 @@ module _ (ok : Leave) (z : Place) where
         ∙ makes ok z calm Maker.Lambda ss (Value.Fun (fun_at p' xs g) ∷ Value.At p' ∷ vs) us c)
 
     bare_fun_runs : (k : ℕ) (p : Place) (f : Fun) (ts us : List Terminal) → G.BareFun ok k p f ts us → BareFunRuns k f ts us
-    bare_fun_runs k p f ts us (G.«fun» {xs = xs} {e = g} {ts = as'} {us = bs} p' q r s h v d) = (refl, λ ss vs c.
-        allowed h _ _
-        ∙ variable_list_runs ok z Closer.Round xs as' (mark Mark.Arrow s ∷ bs) r v (Symbol.Wants Mark.Arrow ∷ expression (k + 1) (Symbol.Make Maker.Fun ∷ ss)) (Value.At p' ∷ vs)
-        ∙ expression_run (k + 1) g bs us (expression_runs (k + 1) g bs us d) (Symbol.Make Maker.Fun ∷ ss) (Value.Variables xs ∷ Value.At p' ∷ vs) c
-        ∙ makes ok z calm Maker.Fun ss (Value.Expression g ∷ Value.Variables xs ∷ Value.At p' ∷ vs) us c)
+    bare_fun_runs k p f ts us (G.«fun» {xs = xs} {e = g} {ts = as'} {us = bs} p' q r s h v d) = (
+      refl,
+      λ ss vs c.
+          allowed h _ _
+          ∙ variable_list_runs ok z Closer.Round xs as' (mark Mark.Arrow s ∷ bs) r v (Symbol.Wants Mark.Arrow ∷ expression (k + 1) (Symbol.Make Maker.Fun ∷ ss)) (Value.At p' ∷ vs)
+          ∙ expression_run (k + 1) g bs us (expression_runs (k + 1) g bs us d) (Symbol.Make Maker.Fun ∷ ss) (Value.Variables xs ∷ Value.At p' ∷ vs) c
+          ∙ makes ok z calm Maker.Fun ss (Value.Expression g ∷ Value.Variables xs ∷ Value.At p' ∷ vs) us c,
+    )
 
     fun_runs : (k : ℕ) (f : Fun) (ts us : List Terminal) → G.FunOf ok k f ts us → (ss : Symbols) (vs : Values) → begins calm us ≡ true → run ok z (Symbol.Annotated (Part.Fun k) ∷ ss) vs ts ≡ run ok z ss (Value.Fun f ∷ vs) us
     fun_runs k f ts us (G.fun_bare {p = p} d) ss vs c =

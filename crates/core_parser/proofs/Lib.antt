@@ -1,4 +1,4 @@
-mod Answering
+pub mod Answering
 mod Backs
 mod Cells
 mod Constants
@@ -10,5 +10,6 @@ mod Meaning
 mod Modules
 mod Refusing
 mod Sound
+mod OneAnswer
 mod Patterns
 mod Steps

@@ -1,11 +1,9 @@
 -- What symbols stand for, as relations of the grammar.
-use Rattle.std.proofs.Common.{◌≡◌, ℕ, ℤ, pos, ◌+◌, List, [], ◌∷◌, ◌++◌, Bool, true, false, ◌&&◌, refl, ap, sym, ◌∙◌}
+use Rattle.std.proofs.Common.{◌≡◌, ℕ, ◌+◌, List, [], ◌∷◌, true}
 use Rattle.hipe_terms.specs.declared.place.Place.{Place}
 use Rattle.hipe_terms.specs.declared.constant.Constant.{Constant}
-use Rattle.hipe_terms.specs.declared.constant.Constant.TheOpen.{Constant-F}
 use Rattle.core_ast.specs.declared.pattern.Var.{Var}
 use Rattle.core_ast.specs.declared.pattern.Pattern.{Pattern}
-use Rattle.core_ast.specs.declared.pattern.PatNode.TheOpen.{PatNode-F}
 use Rattle.core_ast.specs.declared.tree.Clause.{Clause}
 use Rattle.core_ast.specs.declared.tree.Expr.{Expr}
 use Rattle.core_ast.specs.declared.tree.Fun.{Fun}
@@ -15,7 +13,7 @@ use Rattle.core_ast.specs.declared.tree.Module.{Module}
 use Rattle.core_grammar.specs.declared.terminal.Kind.{Kind}
 use Rattle.core_grammar.specs.declared.terminal.Mark.{Mark}
 use Rattle.core_grammar.specs.declared.terminal.Terminal.{Terminal}
-use Rattle.core_grammar.specs.Leave.{Need, part, argument, Leave, token, mark}
+use Rattle.core_grammar.specs.Leave.{part, argument, Leave, token, mark}
 use Rattle.core_grammar.specs.Grammar as G
 use Rattle.core_parser.specs.declared.symbol.Closer.{Closer}
 use Rattle.core_parser.specs.declared.symbol.Element.{Element}

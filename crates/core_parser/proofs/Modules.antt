@@ -1,16 +1,14 @@
 -- Runs over modules and calls: what is derived is read, so there is one tree.
-use Rattle.std.proofs.Common.{◌≡◌, ℕ, ◌+◌, List, [], ◌∷◌, ◌++◌, Bool, true, false, ◌&&◌, if◌then◌else◌, Result, Ok, Err, refl, ap, sym, ◌∙◌, append_assoc}
+use Rattle.std.proofs.Common.{◌≡◌, ℕ, ◌+◌, List, [], ◌∷◌, ◌++◌, Bool, true, ◌&&◌, if◌then◌else◌, Ok, refl, ap, sym, ◌∙◌, append_assoc}
 use Rattle.hipe_terms.specs.declared.place.Place.{Place}
 use Rattle.hipe_terms.specs.declared.constant.Call.{Call}
 use Rattle.hipe_terms.specs.declared.constant.Constant.{Constant}
-use Rattle.core_ast.specs.declared.tree.FunDef.{FunDef}
 use Rattle.core_ast.specs.declared.tree.FunName.{FunName}
 use Rattle.core_ast.specs.declared.tree.Module.{Module}
-use Rattle.core_grammar.specs.declared.fault.Fault.{Fault}
 use Rattle.core_grammar.specs.declared.terminal.Kind.{Kind}
 use Rattle.core_grammar.specs.declared.terminal.Mark.{Mark}
 use Rattle.core_grammar.specs.declared.terminal.Terminal.{Terminal}
-use Rattle.core_grammar.specs.Leave.{Need, part, argument, Leave, token, mark}
+use Rattle.core_grammar.specs.Leave.{argument, Leave, mark}
 use Rattle.core_grammar.specs.Language.{Derives, DerivesCall}
 use Rattle.core_grammar.specs.Grammar as G
 use Rattle.core_parser.specs.declared.symbol.Closer.{Closer}
@@ -21,11 +19,10 @@ use Rattle.core_parser.specs.declared.symbol.Symbol.{Symbol}
 use Rattle.core_parser.specs.declared.symbol.Term.{Term}
 use Rattle.core_parser.specs.declared.value.Value.{Value}
 use Rattle.core_parser.specs.Values.{Values}
-use Rattle.core_parser.specs.Machine.{Symbols, Move, move, gone, all_ok, run, Answer, also, constant, argument_pushed, module_start, call_start}
-use Rattle.core_parser.proofs.Steps as Steps
-use Rattle.core_parser.proofs.Steps.{allowed, begins, calm, filled, opens, opens_bare, is_filled, same, makes}
+use Rattle.core_parser.specs.Machine.{Symbols, move, gone, all_ok, run, Answer, also, constant, argument_pushed, module_start, call_start}
+use Rattle.core_parser.proofs.Steps.{begins, calm, opens, opens_bare, same, makes}
 use Rattle.core_parser.proofs.Elements as Elements
-use Rattle.core_parser.proofs.Constants.{ConstantRuns, constant_runs, annotation_runs, BareRuns, annotated_runs, Anything}
+use Rattle.core_parser.proofs.Constants.{constant_runs, annotation_runs, BareRuns, annotated_runs, Anything}
 use Rattle.core_parser.proofs.Expressions.{definitions_calm, definitions_run}
 
 first_is_argument : (ss : Symbols) (vs : Values) (t : Kind) (p : Place) → opens t ≡ true → move (Symbol.ArgumentsFirst ∷ ss) vs t p ≡ move (Symbol.Argument 1 ∷ argument_pushed 2 ss) vs t p
@@ -68,20 +65,26 @@ module _ (ok : Leave) (z : Place) where
 
   attribute_item : (x : List ℕ × Constant) (ts us : List Terminal) → G.AttributeOf ok x ts us → Elements.ItemRuns ok z (List ℕ × Constant) Element.Attribute put_attribute x ts us
   attribute_item x ts us (G.attribute {a = a} {c = c} {us = xs} q (G.bare (G.atom p)) d) = (refl, λ ss vs h. annotated_constant c xs us d ss (Value.Atom a ∷ vs) h)
-  attribute_item x ts us (G.attribute {a = a} {c = c} {us = xs} q (G.annotated o (G.atom p) n) d) = (refl, λ ss vs h.
-      annotation_runs ok z _ (mark Mark.Equals q ∷ xs) n (Symbol.Wants Mark.Equals ∷ Symbol.Annotated (Part.Constant 1) ∷ ss) (Value.Atom a ∷ vs)
-      ∙ annotated_constant c xs us d ss (Value.Atom a ∷ vs) h)
+  attribute_item x ts us (G.attribute {a = a} {c = c} {us = xs} q (G.annotated o (G.atom p) n) d) = (
+    refl,
+    λ ss vs h.
+        annotation_runs ok z _ (mark Mark.Equals q ∷ xs) n (Symbol.Wants Mark.Equals ∷ Symbol.Annotated (Part.Constant 1) ∷ ss) (Value.Atom a ∷ vs)
+        ∙ annotated_constant c xs us d ss (Value.Atom a ∷ vs) h,
+  )
 
   -- modules
 
   bare_module_runs : (m : Module) (ts us : List Terminal) → G.BareModule ok m ts us → BareRuns ok z (Anything ok z) Part.Module (λ vs. Value.Module m ∷ vs) ts us
-  bare_module_runs m ts us (G.«module» {exports = exports} {attributes = attributes} {ds = ds} {ts = xs} {us = ys} {vs = bs} a p q r s t u v w e f d) = (refl, λ ss vs _.
-      Elements.empty_list_runs ok z (FunName × Place) (G.ExportOf ok) Element.Export put_export Value.Exports (λ e es vs. refl) export_item refl Closer.Square exports xs (mark Mark.Attributes t ∷ mark Mark.OpenSquare u ∷ ys) s e
+  bare_module_runs m ts us (G.«module» {exports = exports} {attributes = attributes} {ds = ds} {ts = xs} {us = ys} {vs = bs} a p q r s t u v w e f d) = (
+    refl,
+    λ ss vs _.
+        Elements.empty_list_runs ok z (FunName × Place) (G.ExportOf ok) Element.Export put_export Value.Exports (λ e es vs. refl) export_item refl Closer.Square exports xs (mark Mark.Attributes t ∷ mark Mark.OpenSquare u ∷ ys) s e
         (Symbol.Wants Mark.Attributes ∷ Symbol.Wants Mark.OpenSquare ∷ Symbol.Make (Maker.Empty Element.Attribute) ∷ Symbol.First Element.Attribute Closer.Square ∷ Symbol.Make Maker.NoDefinitions ∷ Symbol.Definitions 1 ∷ Symbol.ModuleEnd ∷ ss) (Value.Atom a ∷ vs)
-      ∙ Elements.empty_list_runs ok z (List ℕ × Constant) (G.AttributeOf ok) Element.Attribute put_attribute Value.Attributes (λ x xs vs. refl) attribute_item refl Closer.Square attributes ys bs v f
+        ∙ Elements.empty_list_runs ok z (List ℕ × Constant) (G.AttributeOf ok) Element.Attribute put_attribute Value.Attributes (λ x xs vs. refl) attribute_item refl Closer.Square attributes ys bs v f
         (Symbol.Make Maker.NoDefinitions ∷ Symbol.Definitions 1 ∷ Symbol.ModuleEnd ∷ ss) (Value.Exports exports ∷ Value.Atom a ∷ vs)
-      ∙ makes ok z calm Maker.NoDefinitions (Symbol.Definitions 1 ∷ Symbol.ModuleEnd ∷ ss) (Value.Attributes attributes ∷ Value.Exports exports ∷ Value.Atom a ∷ vs) bs (definitions_calm ok z 1 ds bs _ d refl)
-      ∙ definitions_run ok z 1 ds bs (mark Mark.End w ∷ us) d [] (Symbol.ModuleEnd ∷ ss) (Value.Attributes attributes ∷ Value.Exports exports ∷ Value.Atom a ∷ vs) refl)
+        ∙ makes ok z calm Maker.NoDefinitions (Symbol.Definitions 1 ∷ Symbol.ModuleEnd ∷ ss) (Value.Attributes attributes ∷ Value.Exports exports ∷ Value.Atom a ∷ vs) bs (definitions_calm ok z 1 ds bs _ d refl)
+        ∙ definitions_run ok z 1 ds bs (mark Mark.End w ∷ us) d [] (Symbol.ModuleEnd ∷ ss) (Value.Attributes attributes ∷ Value.Exports exports ∷ Value.Atom a ∷ vs) refl,
+  )
 
   -- a module that is derived is read
   pub derived_runs : (ts : List Terminal) (m : Module) → Derives ok ts m → run ok z module_start [] ts ≡ Ok (Value.Module m ∷ [])

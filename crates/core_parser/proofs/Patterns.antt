@@ -1,5 +1,5 @@
 -- Runs over patterns, alone, as tails, and at the head of a clause.
-use Rattle.std.proofs.Common.{◌≡◌, ℕ, ℤ, pos, ◌+◌, List, [], ◌∷◌, ◌++◌, map, Bool, true, false, ◌&&◌, if◌then◌else◌, Ok, Err, refl, ap, sym, ◌∙◌, append_assoc}
+use Rattle.std.proofs.Common.{◌≡◌, ℕ, ◌+◌, List, [], ◌∷◌, ◌++◌, Bool, true, false, refl, ap, sym, ◌∙◌, append_assoc}
 use Rattle.hipe_terms.specs.declared.place.Place.{Place}
 use Rattle.core_ast.specs.declared.pattern.Var.{Var}
 use Rattle.core_ast.specs.declared.pattern.Pattern.{Pattern}
@@ -8,7 +8,7 @@ use Rattle.core_ast.specs.declared.pattern.PatNode.TheOpen.{PatNode-F}
 use Rattle.core_grammar.specs.declared.terminal.Kind.{Kind}
 use Rattle.core_grammar.specs.declared.terminal.Mark.{Mark}
 use Rattle.core_grammar.specs.declared.terminal.Terminal.{Terminal}
-use Rattle.core_grammar.specs.Trees.{variable_at, pattern_at, pattern_cells, pattern_cells_before, pattern_nil, pattern_text}
+use Rattle.core_grammar.specs.Trees.{variable_at, pattern_at, pattern_cells, pattern_cells_before, pattern_nil}
 use Rattle.core_grammar.specs.Leave.{Leave, part, token, mark}
 use Rattle.core_grammar.specs.Grammar as G
 use Rattle.core_parser.specs.declared.symbol.Closer.{Closer}
@@ -18,7 +18,7 @@ use Rattle.core_parser.specs.declared.symbol.Symbol.{Symbol}
 use Rattle.core_parser.specs.declared.symbol.Term.{Term}
 use Rattle.core_parser.specs.declared.value.Value.{Value}
 use Rattle.core_parser.specs.Values.{Values, variable_pattern}
-use Rattle.core_parser.specs.Machine.{Symbols, Move, move, run, after_variable, annotation, annotation_list, alias_of, guarded, when_guarded, one_when_guarded}
+use Rattle.core_parser.specs.Machine.{Symbols, Move, move, run, after_variable, annotation, alias_of, guarded, when_guarded, one_when_guarded}
 use Rattle.core_parser.proofs.Steps as Steps
 use Rattle.core_parser.proofs.Steps.{allowed, begins, calm, filled, opens, opens_bare, opens_plain, opens_other, plain_is_bare, bare_opens, same, makes, made_as}
 use Rattle.core_parser.proofs.Elements as Elements
@@ -181,43 +181,52 @@ module _ (ok : Leave) (z : Place) where
   form_opens k f ts us (noted o d n) = refl
 
   form_runs : (k : ℕ) (f : Pattern) (ts us : List Terminal) → Form k f ts us → PatternRuns k f ts us
-  form_runs k f ts us d = (form_opens k f ts us d,
-      (λ ss vs c. same ok z opens (Symbol.Item (Element.Term (Term.Pattern k)) ∷ ss) (Symbol.Pattern k ∷ ss) vs vs (λ t p h. refl) ts (form_opens k f ts us d) ∙ pattern_run k f ts us d ss vs c),
-      tail_run k f ts us d)
+  form_runs k f ts us d = (
+    form_opens k f ts us d,
+    (λ ss vs c. same ok z opens (Symbol.Item (Element.Term (Term.Pattern k)) ∷ ss) (Symbol.Pattern k ∷ ss) vs vs (λ t p h. refl) ts (form_opens k f ts us d) ∙ pattern_run k f ts us d ss vs c),
+    tail_run k f ts us d,
+  )
 
   -- a plain pattern that doesn't begin with `[`
   other_runs : (k : ℕ) (f : Pattern) (ts us : List Terminal) → begins opens_plain ts ≡ true → begins plain_other ts ≡ true → ((ss : Symbols) (vs : Values) → begins calm us ≡ true → run ok z (Symbol.Pattern k ∷ ss) vs ts ≡ run ok z ss (Value.Pattern f ∷ vs) us) → BareForm k f ts us
-  other_runs k f ts us o other r = plain (o, r, λ es q p ss vs h.
-      same ok z plain_other (Symbol.Tail (Term.Pattern k) ∷ ss) (Symbol.Pattern k ∷ Symbol.Make (Maker.Join (Term.Pattern k)) ∷ ss) (Value.Patterns es ∷ Value.At q ∷ Value.At p ∷ vs) (Value.Patterns es ∷ Value.At q ∷ Value.At p ∷ vs) (other_joins k ss (Value.Patterns es ∷ Value.At q ∷ Value.At p ∷ vs)) ts other
-      ∙ r (Symbol.Make (Maker.Join (Term.Pattern k)) ∷ ss) (Value.Patterns es ∷ Value.At q ∷ Value.At p ∷ vs) h
-      ∙ makes ok z calm (Maker.Join (Term.Pattern k)) ss (Value.Pattern f ∷ Value.Patterns es ∷ Value.At q ∷ Value.At p ∷ vs) us h)
+  other_runs k f ts us o other r = plain (
+    o,
+    r,
+    λ es q p ss vs h.
+        same ok z plain_other (Symbol.Tail (Term.Pattern k) ∷ ss) (Symbol.Pattern k ∷ Symbol.Make (Maker.Join (Term.Pattern k)) ∷ ss) (Value.Patterns es ∷ Value.At q ∷ Value.At p ∷ vs) (Value.Patterns es ∷ Value.At q ∷ Value.At p ∷ vs) (other_joins k ss (Value.Patterns es ∷ Value.At q ∷ Value.At p ∷ vs)) ts other
+        ∙ r (Symbol.Make (Maker.Join (Term.Pattern k)) ∷ ss) (Value.Patterns es ∷ Value.At q ∷ Value.At p ∷ vs) h
+        ∙ makes ok z calm (Maker.Join (Term.Pattern k)) ss (Value.Pattern f ∷ Value.Patterns es ∷ Value.At q ∷ Value.At p ∷ vs) us h,
+  )
 
   pub pattern_list_runs : (k : ℕ) (c : Closer) (fs : List Pattern) (ts us : List Terminal) (p : Place) → G.ListOf Pattern (PatternRuns k) fs ts (mark (Steps.closing c) p ∷ us) → (ss : Symbols) (vs : Values) → run ok z (Symbol.First (Element.Term (Term.Pattern k)) c ∷ ss) (Value.Patterns [] ∷ vs) ts ≡ run ok z ss (Value.Patterns fs ∷ vs) us
   pattern_list_runs k = Elements.list_runs ok z Pattern (PatternRuns k) (Element.Term (Term.Pattern k)) (λ f vs. Value.Pattern f ∷ vs) Value.Patterns (λ f fs vs. refl) (pattern_item k)
 
   list_is_read : (k : ℕ) (fs : List Pattern) (ts us : List Terminal) (p q : Place) → ok (part k) (mark Mark.OpenSquare p ∷ ts) ≡ true → G.SomeOf Pattern (PatternRuns (k + 1)) fs ts (mark Mark.CloseSquare q ∷ us) → BareForm k (pattern_at p (PatNode-F.List fs (pattern_nil p))) (mark Mark.OpenSquare p ∷ ts) us
-  list_is_read k fs ts us p q h d = plain
-      (refl,
-        (λ ss vs c. allowed h _ _ ∙ Cells.list_runs ok z Pattern (Term.Pattern k) Value.Pattern Value.Patterns before ended (λ f fs vs. refl) (λ es q p vs. refl) fs ts us q d p ss vs),
-        (λ es o r ss vs c.
-            Cells.tail_list_runs ok z Pattern (Term.Pattern k) Value.Pattern Value.Patterns before ended (λ f fs vs. refl) (λ es q p vs. refl) p q fs ts us h d es o r ss vs
-            ∙ ap (λ x. run ok z ss (Value.Pattern x ∷ vs) us) (sym (list_joins r p es fs (pattern_nil p)))))
+  list_is_read k fs ts us p q h d = plain (
+    refl,
+    (λ ss vs c. allowed h _ _ ∙ Cells.list_runs ok z Pattern (Term.Pattern k) Value.Pattern Value.Patterns before ended (λ f fs vs. refl) (λ es q p vs. refl) fs ts us q d p ss vs),
+    (λ es o r ss vs c.
+        Cells.tail_list_runs ok z Pattern (Term.Pattern k) Value.Pattern Value.Patterns before ended (λ f fs vs. refl) (λ es q p vs. refl) p q fs ts us h d es o r ss vs
+        ∙ ap (λ x. run ok z ss (Value.Pattern x ∷ vs) us) (sym (list_joins r p es fs (pattern_nil p)))),
+  )
 
   before_is_read : (k : ℕ) (fs : List Pattern) (e : Pattern) (ts us ws : List Terminal) (p q r : Place) → ok (part k) (mark Mark.OpenSquare p ∷ ts) ≡ true → G.SomeOf Pattern (PatternRuns (k + 1)) fs ts (mark Mark.Bar q ∷ us) → PatternRuns k e us (mark Mark.CloseSquare r ∷ ws) → BareForm k (pattern_cells p fs e) (mark Mark.OpenSquare p ∷ ts) ws
-  before_is_read k fs e ts us ws p q r h d f = plain
-      (refl,
-        (λ ss vs c. allowed h _ _ ∙ Cells.list_before_runs ok z Pattern (Term.Pattern k) Value.Pattern Value.Patterns before ended (λ f fs vs. refl) (λ es q p vs. refl) fs e ts us ws q r d f p ss vs),
-        (λ es o t ss vs c.
-            Cells.tail_list_before_runs ok z Pattern (Term.Pattern k) Value.Pattern Value.Patterns before ended (λ f fs vs. refl) (λ es q p vs. refl) p q r fs e ts us ws h d f es o t ss vs
-            ∙ ap (λ x. run ok z ss (Value.Pattern x ∷ vs) ws) (sym (cells_join t p es fs e))))
+  before_is_read k fs e ts us ws p q r h d f = plain (
+    refl,
+    (λ ss vs c. allowed h _ _ ∙ Cells.list_before_runs ok z Pattern (Term.Pattern k) Value.Pattern Value.Patterns before ended (λ f fs vs. refl) (λ es q p vs. refl) fs e ts us ws q r d f p ss vs),
+    (λ es o t ss vs c.
+        Cells.tail_list_before_runs ok z Pattern (Term.Pattern k) Value.Pattern Value.Patterns before ended (λ f fs vs. refl) (λ es q p vs. refl) p q r fs e ts us ws h d f es o t ss vs
+        ∙ ap (λ x. run ok z ss (Value.Pattern x ∷ vs) ws) (sym (cells_join t p es fs e))),
+  )
 
   empty_is_read : (k : ℕ) (us : List Terminal) (p q : Place) → ok (part k) (mark Mark.OpenSquare p ∷ mark Mark.CloseSquare q ∷ us) ≡ true → BareForm k (pattern_nil p) (mark Mark.OpenSquare p ∷ mark Mark.CloseSquare q ∷ us) us
-  empty_is_read k us p q h = plain
-      (refl,
-        (λ ss vs c. allowed h _ _),
-        (λ es o r ss vs c.
-            Cells.empty_tail_runs ok z Pattern (Term.Pattern k) Value.Pattern Value.Patterns before ended (λ f fs vs. refl) (λ es q p vs. refl) p q us h es o r ss vs
-            ∙ ap (λ x. run ok z ss (Value.Pattern x ∷ vs) us) (sym (nil_joins r p es))))
+  empty_is_read k us p q h = plain (
+    refl,
+    (λ ss vs c. allowed h _ _),
+    (λ es o r ss vs c.
+        Cells.empty_tail_runs ok z Pattern (Term.Pattern k) Value.Pattern Value.Patterns before ended (λ f fs vs. refl) (λ es q p vs. refl) p q us h es o r ss vs
+        ∙ ap (λ x. run ok z ss (Value.Pattern x ∷ vs) us) (sym (nil_joins r p es))),
+  )
 
   mutual
     pub bare_form : (k : ℕ) (f : Pattern) (ts us : List Terminal) → G.BarePattern ok k f ts us → BareForm k f ts us

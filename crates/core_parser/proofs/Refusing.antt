@@ -1,17 +1,16 @@
 -- The machine reads exactly what is derived, and refuses the first terminal that doesn't go on.
-use Rattle.std.proofs.Common.{◌≡◌, ℕ, pos, suc, ◌+◌, ◌≤◌, ◌<◌, List, [], ◌∷◌, ◌++◌, length, Bool, true, false, ◌&&◌, ◌||◌, nat_le, if◌then◌else◌, Ok, Err, refl, ap, sym, ◌∙◌, append_assoc, append-nil, arith, subst}
+use Rattle.std.proofs.Common.{◌≡◌, ℕ, suc, ◌≤◌, List, [], ◌∷◌, ◌++◌, length, Bool, true, false, ◌&&◌, ◌||◌, nat_le, if◌then◌else◌, Ok, Err, refl, ap, sym, ◌∙◌, append_assoc, append-nil, arith, subst}
 use Rattle.std.proofs.lemmas.Bool.Decides.{nat_tests}
 use Rattle.hipe_terms.specs.declared.place.Place.{Place}
 use Rattle.core_grammar.specs.declared.fault.Fault.{Fault}
-use Rattle.core_grammar.specs.declared.terminal.Kind.{Kind}
 use Rattle.core_grammar.specs.declared.terminal.Terminal.{Terminal}
-use Rattle.core_grammar.specs.Leave.{Need, part, variable_operand, argument, Leave, token}
+use Rattle.core_grammar.specs.Leave.{Need, part, variable_operand, argument, Leave}
 use Rattle.core_grammar.specs.Language.{argument_limit, limit, any, any_operand, within}
 use Rattle.core_parser.specs.declared.symbol.Symbol.{Symbol}
 use Rattle.core_parser.specs.declared.value.Value.{Value}
 use Rattle.core_parser.specs.Values.{Values}
-use Rattle.core_parser.specs.Machine.{Symbols, Move, Go, No, move, gone, goes, why, why_not, has_operand, all_ok, run, Answer, at_end}
-use Rattle.core_parser.proofs.Meaning.{Holds, done, on}
+use Rattle.core_parser.specs.Machine.{Symbols, Move, Go, No, move, gone, why, why_not, has_operand, all_ok, run, Answer}
+use Rattle.core_parser.proofs.Meaning.{Holds, done}
 use Rattle.core_parser.proofs.Backs.{Backs, and_parts}
 use Rattle.core_parser.proofs.Sound.{move_back}
 use Rattle.core_parser.proofs.Ends.{ending, ends}
@@ -49,7 +48,7 @@ pub all_are_any_operand : (needs : List Need) (ts : List Terminal) → all_ok an
 all_are_any_operand [] ts = refl
 all_are_any_operand (need ∷ needs) ts = all_are_any_operand needs ts
 
-regroup : (us : List Terminal) (t : Terminal) (ws : List Terminal) → (us ++ t ∷ []) ++ ws ≡ us ++ t ∷ ws
+pub regroup : (us : List Terminal) (t : Terminal) (ws : List Terminal) → (us ++ t ∷ []) ++ ws ≡ us ++ t ∷ ws
 regroup us t ws = append_assoc us (t ∷ []) ws
 
 or_true : (a b : Bool) → b ≡ true → (a || b) ≡ true
@@ -80,8 +79,8 @@ module _ (z : Place) where
   module _ (n : ℕ) where
     -- what is within the limit may be
     pub record Wider (ok : Leave) : Type 0 where
-      parts : (k : ℕ) (us : List Terminal) → nat_le k n ≡ true → ok (part k) us ≡ true
-      arguments : (i : ℕ) (us : List Terminal) → nat_le i argument_limit ≡ true → ok (argument i) us ≡ true
+      pub parts : (k : ℕ) (us : List Terminal) → nat_le k n ≡ true → ok (part k) us ≡ true
+      pub arguments : (i : ℕ) (us : List Terminal) → nat_le i argument_limit ≡ true → ok (argument i) us ≡ true
 
     pub loose_is_wider : (ok : Leave) → Loose ok → Wider ok
     loose_is_wider ok l = record { parts = λ k us h. l.parts k us; arguments = λ i us h. l.arguments i us }
@@ -92,7 +91,7 @@ module _ (z : Place) where
       arguments = λ i us h. ap (λ b. b || nat_le (length us) m) h;
     }
 
-    wider_all : (ok : Leave) → Wider ok → (needs : List Need) (cs bs : List Terminal) → all_ok (limit n) needs cs ≡ true → all_ok ok needs bs ≡ true
+    pub wider_all : (ok : Leave) → Wider ok → (needs : List Need) (cs bs : List Terminal) → all_ok (limit n) needs cs ≡ true → all_ok ok needs bs ≡ true
     wider_all ok w [] cs bs h = refl
     wider_all ok w (part k ∷ needs) cs bs h =
         let p = and_parts ok (nat_le k n) (all_ok (limit n) needs cs) h in
@@ -104,13 +103,13 @@ module _ (z : Place) where
 
     -- from one state to another over terminals
     pub record Path (ss : Symbols) (vs : Values) (us : List Terminal) (ss' : Symbols) (vs' : Values) : Type 0 where
-      reach : (ok : Leave) → Wider ok → (xs : List Terminal) → run ok z ss vs (us ++ xs) ≡ run ok z ss' vs' xs
-      back : (ok : Leave) → Wider ok → (xs : List Terminal) → Holds ok ss' xs → Holds ok ss (us ++ xs)
+      pub reach : (ok : Leave) → Wider ok → (xs : List Terminal) → run ok z ss vs (us ++ xs) ≡ run ok z ss' vs' xs
+      pub back : (ok : Leave) → Wider ok → (xs : List Terminal) → Holds ok ss' xs → Holds ok ss (us ++ xs)
 
-    no_path : (ss : Symbols) (vs : Values) → Path ss vs [] ss vs
+    pub no_path : (ss : Symbols) (vs : Values) → Path ss vs [] ss vs
     no_path ss vs = record { reach = λ ok w xs. refl; back = λ ok w xs h. h }
 
-    longer_path : (t : Terminal) (ts us : List Terminal) (ss ss' ss'' : Symbols) (vs vs' vs'' : Values) (needs : List Need) → move ss vs t.kind t.at ≡ Go ss' vs' needs → all_ok (limit n) needs ts ≡ true → Path ss' vs' us ss'' vs'' → Path ss vs (t ∷ us) ss'' vs''
+    pub longer_path : (t : Terminal) (ts us : List Terminal) (ss ss' ss'' : Symbols) (vs vs' vs'' : Values) (needs : List Need) → move ss vs t.kind t.at ≡ Go ss' vs' needs → all_ok (limit n) needs ts ≡ true → Path ss' vs' us ss'' vs'' → Path ss vs (t ∷ us) ss'' vs''
     longer_path t ts us ss ss' ss'' vs vs' vs'' needs e a p = record {
       reach = λ ok w xs.
           ap (λ m. gone m (λ needs. all_ok ok needs (t ∷ us ++ xs)) t.kind t.at (λ ss vs. run ok z ss vs (us ++ xs))) e
@@ -149,7 +148,7 @@ module _ (z : Place) where
         by_move finds (Go ss' vs' needs) e h = by_test finds ss' vs' needs e (all_ok (limit n) needs (t ∷ ts)) refl h
 
     -- what is above the limit is above it among the terminals that were read
-    shorter : (needs : List Need) (t : Terminal) (ws as' : List Terminal) → all_ok (limit n) needs as' ≡ false → all_ok (within n (length ws)) needs (t ∷ ws) ≡ false
+    pub shorter : (needs : List Need) (t : Terminal) (ws as' : List Terminal) → all_ok (limit n) needs as' ≡ false → all_ok (within n (length ws)) needs (t ∷ ws) ≡ false
     shorter [] t ws as' h = h
     shorter (variable_operand ∷ needs) t ws as' h = refl
     shorter (part k ∷ needs) t ws as' h =
@@ -209,8 +208,8 @@ module _ (z : Place) where
       pub not_allowed : (ok : Leave) → Wider ok → (us : List Terminal) (t : Terminal) (ss' ss2 : Symbols) (vs' vs2 : Values) (needs : List Need) → Path start [] us ss' vs' → move ss' vs' t.kind t.at ≡ Go ss2 vs2 needs → (ws : List Terminal) → all_ok ok needs (t ∷ ws) ≡ false → (x : X) → D ok ((us ++ t ∷ []) ++ ws) x → ⊥
       not_allowed ok w us t ss' ss2 vs' vs2 needs path e ws denied x d =
           never ok w us t ss' vs' path ws x (why_not needs, t.at)
-            (ap (λ m. gone m (λ needs. all_ok ok needs (t ∷ ws)) t.kind t.at (λ ss vs. run ok z ss vs ws)) e
-              ∙ ap (λ b. if b then run ok z ss2 vs2 ws else Err (why_not needs, t.at)) denied) d
+          (ap (λ m. gone m (λ needs. all_ok ok needs (t ∷ ws)) t.kind t.at (λ ss vs. run ok z ss vs ws)) e
+          ∙ ap (λ b. if b then run ok z ss2 vs2 ws else Err (why_not needs, t.at)) denied) d
 
       pub too_deep : (us : List Terminal) (t : Terminal) (as' : List Terminal) (ss' ss2 : Symbols) (vs' vs2 : Values) (needs : List Need) → Path start [] us ss' vs' → move ss' vs' t.kind t.at ≡ Go ss2 vs2 needs → all_ok (limit n) needs as' ≡ false → (ws : List Terminal) × (x : X) × D (within n (length ws)) ((us ++ t ∷ []) ++ ws) x → ⊥
       too_deep us t as' ss' ss2 vs' vs2 needs path e over v = not_allowed (within n (length v.0)) (within_is_wider (length v.0)) us t ss' ss2 vs' vs2 needs path e v.0 (shorter needs t v.0 as' over) v.1 v.2

@@ -1,17 +1,16 @@
 -- Where a move leads, the grammar leads: clauses, definitions, calls, and every symbol.
-use Rattle.std.proofs.Common.{◌≡◌, ℕ, ℤ, pos, ◌+◌, ◌==◌, List, [], ◌∷◌, ◌++◌, Bool, true, false, ◌&&◌, if◌then◌else◌, refl, ap, sym, ◌∙◌, subst}
+use Rattle.std.proofs.Common.{◌≡◌, ℕ, ◌+◌, ◌==◌, List, [], ◌∷◌, Bool, true, false, if◌then◌else◌, refl, sym, subst}
 use Rattle.std.proofs.lemmas.Bool.{eqb-true}
 use Rattle.hipe_terms.specs.declared.place.Place.{Place}
 use Rattle.core_ast.specs.declared.pattern.Var.{Var}
 use Rattle.core_ast.specs.declared.pattern.Pattern.{Pattern}
 use Rattle.core_ast.specs.declared.pattern.PatNode.TheOpen.{PatNode-F}
 use Rattle.core_ast.specs.declared.tree.Clause.{Clause}
-use Rattle.core_ast.specs.declared.tree.Expr.{Expr}
 use Rattle.core_grammar.specs.declared.terminal.Kind.{Kind}
 use Rattle.core_grammar.specs.declared.terminal.Mark.{Mark}
 use Rattle.core_grammar.specs.declared.terminal.Terminal.{Terminal}
 use Rattle.core_grammar.specs.Trees.{variable_at, pattern_at, name_of, clause_at}
-use Rattle.core_grammar.specs.Leave.{Need, part, variable_operand, argument, Leave, token, mark}
+use Rattle.core_grammar.specs.Leave.{Need, part, argument, Leave, token, mark}
 use Rattle.core_grammar.specs.Grammar as G
 use Rattle.core_parser.specs.declared.symbol.Closer.{Closer}
 use Rattle.core_parser.specs.declared.symbol.Element.{Element}
@@ -22,7 +21,7 @@ use Rattle.core_parser.specs.declared.symbol.Term.{Term}
 use Rattle.core_parser.specs.Values.{Values, literal, variable_pattern, made}
 use Rattle.core_parser.specs.Machine.{Symbols, Move, Go, No, move, all_ok, code, also, annotation, annotation_list, guarded, when_guarded, one_when_guarded, alias_of, argument_pushed, defined}
 use Rattle.core_parser.specs.Machine as M
-use Rattle.core_parser.proofs.Meaning.{Sat, wants, make, bare_name, bare_constant, fun, arity, item_constant, pattern', alias_name, no_alias, equals, clause, clause_inside, clause_inside_variable, clause_twice_inside, clause_twice_inside_variable, clause_twice_inside_annotated, clause_middle, clauses_none, clauses_some, definitions, arguments_first, argument', arguments_none, arguments_some, Holds, done, on, of_variable, patterns_of, all_patterns, annotation_list_of, annotation_of, held_annotation, guarded_of, held_guarded}
+use Rattle.core_parser.proofs.Meaning.{wants, make, bare_name, bare_constant, fun, arity, pattern', alias_name, no_alias, equals, clause, clause_inside, clause_inside_variable, clause_twice_inside, clause_twice_inside_variable, clause_twice_inside_annotated, clause_middle, clauses_none, clauses_some, definitions, arguments_first, argument', arguments_none, arguments_some, Holds, on, of_variable, patterns_of, all_patterns, annotation_list_of, annotation_of, held_annotation, guarded_of, held_guarded}
 use Rattle.core_parser.proofs.Backs.{one_code, Backs, widen, alone, and_parts, after_atom_back, arity_back, constant_back, module_end_back, bare_back, annotated_back, HeldPattern, held_pattern, plain_back, bare_pattern_back, pattern_back, pattern_inside_back, alias_name_back, pattern_inside_variable_back, after_variable_back, item_back, first_back, rest_back, cells_first_back, cells_rest_back, tail_back, tail_first_back, expression_tail_inside_back, pattern_tail_inside_back, variables_back}
 
 module _ (ok : Leave) where
@@ -113,8 +112,9 @@ module _ (ok : Leave) where
 
   variable_dash : (k : ℕ) (p : Place) (ss : Symbols) (ts : List Terminal) → Holds ok (annotation_list (Symbol.AfterVariable (k + 1) ∷ one_when_guarded k ss)) ts → Holds ok (Symbol.ClauseInsideVariable k ∷ ss) (mark Mark.Dash p ∷ ts)
   variable_dash k p ss ts h = elim (annotation_list_of ok p (Symbol.AfterVariable (k + 1) ∷ one_when_guarded k ss) ts h) [
-      held_annotation n (on {us = us} no_alias i) ↦ elim (one_of k ss us i) [ held_one c g j ↦ on (clause_inside_variable (λ x. c (of_name x)) (λ o x a. G.clause_bare (g (of_name x) (mark Mark.OpenRound o ∷ of_variable x ∷ mark Mark.Dash p ∷ ts) (G.pattern_annotated o (G.pattern_variable x.name x.at a) n)))) j ]
-    | held_annotation n (on {us = us} (equals {f = f} q d) i) ↦ elim (one_of k ss us i) [ held_one c g j ↦ on (clause_inside_variable (λ x. c (of_alias f x)) (λ o x a. G.clause_bare (g (of_alias f x) (mark Mark.OpenRound o ∷ of_variable x ∷ mark Mark.Dash p ∷ ts) (G.pattern_bare (G.pattern_alias {x = x} q a (G.annotated o G.variable n) d))))) j ] ]
+    | held_annotation n (on {us = us} no_alias i) ↦ elim (one_of k ss us i) [ held_one c g j ↦ on (clause_inside_variable (λ x. c (of_name x)) (λ o x a. G.clause_bare (g (of_name x) (mark Mark.OpenRound o ∷ of_variable x ∷ mark Mark.Dash p ∷ ts) (G.pattern_annotated o (G.pattern_variable x.name x.at a) n)))) j ]
+    | held_annotation n (on {us = us} (equals {f = f} q d) i) ↦ elim (one_of k ss us i) [ held_one c g j ↦ on (clause_inside_variable (λ x. c (of_alias f x)) (λ o x a. G.clause_bare (g (of_alias f x) (mark Mark.OpenRound o ∷ of_variable x ∷ mark Mark.Dash p ∷ ts) (G.pattern_bare (G.pattern_alias {x = x} q a (G.annotated o G.variable n) d))))) j ]
+  ]
 
   variable_when : (k : ℕ) (p : Place) (ss : Symbols) (ts : List Terminal) → Holds ok (guarded k (annotation ss)) ts → Holds ok (Symbol.ClauseInsideVariable k ∷ ss) (mark Mark.When p ∷ ts)
   variable_when k p ss ts h = elim (one_guard_of k p (annotation ss) ts h) [ held_one {us = us} c g i ↦ elim (annotation_of ok ss us i) [ held_annotation n j ↦ on (clause_inside_variable (λ x. c (of_name x)) (λ o x a. G.clause_annotated o (g (of_name x) (of_variable x ∷ mark Mark.When p ∷ ts) (G.pattern_bare (G.pattern_variable x.name x.at a))) n)) j ] ]

@@ -1,5 +1,5 @@
 -- Steps of a run: what a terminal may begin, symbols that make the same moves, and makers.
-use Rattle.std.proofs.Common.{◌≡◌, ℕ, List, [], ◌∷◌, ◌++◌, Bool, true, false, ◌&&◌, if◌then◌else◌, Ok, Err, refl, ap, sym, ◌∙◌}
+use Rattle.std.proofs.Common.{◌≡◌, List, [], ◌∷◌, Bool, true, false, ◌&&◌, if◌then◌else◌, refl, ap}
 use Rattle.hipe_terms.specs.declared.place.Place.{Place}
 use Rattle.core_grammar.specs.declared.terminal.Kind.{Kind}
 use Rattle.core_grammar.specs.declared.terminal.Mark.{Mark}
@@ -9,7 +9,7 @@ use Rattle.core_parser.specs.declared.symbol.Closer.{Closer}
 use Rattle.core_parser.specs.declared.symbol.Maker.{Maker}
 use Rattle.core_parser.specs.declared.symbol.Symbol.{Symbol}
 use Rattle.core_parser.specs.Values.{Values, made}
-use Rattle.core_parser.specs.Machine.{Symbols, Move, move, gone, all_ok, run, Answer, at_end, closes}
+use Rattle.core_parser.specs.Machine.{Symbols, move, gone, all_ok, run, Answer, closes}
 
 pub allowed : {b : Bool} → b ≡ true → (x y : Answer) → (if b && true then x else y) ≡ x
 allowed h x y = ap (λ b. if b && true then x else y) h
