@@ -1,0 +1,32 @@
+-- What holds of the grammar.
+use Rattle.std.specs.Prelude.{◌≡◌, ℕ, List, Result}
+use Rattle.hipe_terms.specs.declared.place.Place.{Place}
+use Rattle.hipe_terms.specs.declared.constant.Call.{Call}
+use Rattle.core_ast.specs.declared.tree.Module.{Module}
+use Rattle.core_grammar.specs.declared.fault.Fault.{Fault}
+use Rattle.core_grammar.specs.declared.terminal.Terminal.{Terminal}
+use Rattle.core_grammar.specs.Leave.{Leave}
+use Rattle.core_grammar.specs.Language.{Derives, DerivesCall, IsAnswer, IsCallAnswer}
+
+-- a list of terminals is derived as at most one module, places included
+abbrev pub OneModule : Type 0
+OneModule = (ok : Leave) (ts : List Terminal) (m n : Module) → Derives ok ts m → Derives ok ts n → m ≡ n
+
+-- and as at most one call
+abbrev pub OneCall : Type 0
+OneCall = (ok : Leave) (ts : List Terminal) (c d : Call) → DerivesCall ok ts c → DerivesCall ok ts d → c ≡ d
+
+-- each list of terminals has an answer
+abbrev pub SomeAnswer : Type 0
+SomeAnswer = (n : ℕ) (z : Place) (ts : List Terminal) → (r : Result Module (Fault × Place)) × IsAnswer n z ts r
+
+-- and one alone: the fault and its place too
+abbrev pub OneAnswer : Type 0
+OneAnswer = (n : ℕ) (z : Place) (ts : List Terminal) (r s : Result Module (Fault × Place)) → IsAnswer n z ts r → IsAnswer n z ts s → r ≡ s
+
+-- the same of calls
+abbrev pub SomeCallAnswer : Type 0
+SomeCallAnswer = (n : ℕ) (z : Place) (ts : List Terminal) → (r : Result Call Place) × IsCallAnswer n z ts r
+
+abbrev pub OneCallAnswer : Type 0
+OneCallAnswer = (n : ℕ) (z : Place) (ts : List Terminal) (r s : Result Call Place) → IsCallAnswer n z ts r → IsCallAnswer n z ts s → r ≡ s

@@ -1,0 +1,7 @@
+-- What contracts say of the grammar.
+pub mod Examples
+pub mod Grammar
+pub mod Language
+pub mod Laws
+pub mod Leave
+pub mod Trees

@@ -1,0 +1,18 @@
+// The grammar of Core Erlang's profile.
+//
+// The language is defined in `specs/`: `Grammar` has the productions, one constructor each, with the tree that each derives,
+// the places of its parts and their levels. `Language` says which lists of terminals are modules and calls, and where the
+// others are refused.
+//
+// Files:
+//   terminal.rt   terminals: tokens with their values
+//   fault.rt      why a list of terminals is no module
+//   example.rt    a module by hand
+#![tactic(auto)]
+
+pub mod example;
+pub mod fault;
+pub mod terminal;
+
+pub use fault::Fault;
+pub use terminal::{Kind, Mark, Terminal};

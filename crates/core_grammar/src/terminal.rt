@@ -1,0 +1,86 @@
+// The terminals of the grammar: tokens with their values.
+
+use core_ast::VariableName;
+use hipe_terms::{Atom, Place};
+use sqlite_items::Items;
+
+/// A word or a sign: a token with one spelling. The profile has no use for `after` and `timeout`.
+#[derive(Clone, Copy, Debug, PartialEq, Eq)]
+pub enum Mark {
+    After,
+    Apply,
+    Attributes,
+    Call,
+    Case,
+    Catch,
+    Do,
+    End,
+    Fun,
+    In,
+    Let,
+    Letrec,
+    Module,
+    Of,
+    Primop,
+    Timeout,
+    Try,
+    When,
+    /// `(`
+    OpenRound,
+    /// `)`
+    CloseRound,
+    /// `{`
+    OpenBrace,
+    /// `}`
+    CloseBrace,
+    /// `[`
+    OpenSquare,
+    /// `]`
+    CloseSquare,
+    /// `<`
+    Less,
+    /// `>`
+    Greater,
+    /// `,`
+    Comma,
+    /// `=`
+    Equals,
+    /// `/`
+    Slash,
+    /// `:`
+    Colon,
+    /// `|`
+    Bar,
+    /// `->`
+    Arrow,
+    /// `-|`
+    Dash,
+}
+
+/// What a terminal is, with its value.
+#[derive(Debug, Drop)]
+pub enum Kind {
+    /// An atom.
+    Atom(Atom),
+    /// A variable.
+    Variable(VariableName),
+    /// An integer without a sign.
+    Natural(u64),
+    /// An integer with a sign, or a character.
+    Integer(i64),
+    /// What Core Erlang has and the profile hasn't: a float, `receive`, `#` or `~`.
+    Foreign,
+    /// A text, as its code points.
+    Text(Items<u32>),
+    /// A word or a sign.
+    Mark(Mark),
+}
+
+/// A terminal, and where it begins.
+#[derive(Debug, Drop)]
+pub struct Terminal {
+    /// What it is.
+    pub kind: Kind,
+    /// Where its first character stands.
+    pub at: Place,
+}

@@ -1,0 +1,15 @@
+pub mod Answering
+mod Backs
+mod Cells
+mod Constants
+mod Elements
+mod Ends
+mod Examples
+mod Expressions
+mod Meaning
+mod Modules
+mod Refusing
+mod Sound
+mod OneAnswer
+mod Patterns
+mod Steps

@@ -1,0 +1,3 @@
+-- What contracts say of the parser.
+pub mod Machine
+pub mod Values

@@ -1,0 +1,20 @@
+// The parser of Core Erlang's profile: a machine with a stack of symbols, which are to come, and a stack of values, which
+// were read. Each terminal makes one move.
+//
+// `specs/Machine` defines the machine. That it reads exactly what the grammar derives is proved in `proofs/`.
+//
+// Files:
+//   symbol.rt   symbols
+//   value.rt    values
+//   moved.rt    what a terminal did
+//   law.rt      what the machine proves of the grammar
+#![tactic(auto)]
+
+pub mod law;
+pub mod moved;
+pub mod symbol;
+pub mod value;
+
+pub use moved::Moved;
+pub use symbol::{Closer, Element, Maker, Part, Symbol, Term};
+pub use value::Value;
