@@ -12,18 +12,24 @@ use Rattle.core_text.specs.Escapes.{simple_escape}
 abbrev pub IsCharacter : ℕ → List ℕ → Type 0
 IsCharacter v cs = IsScalar v × (encode_utf8 v ≡ cs)
 
--- the bytes behind a backslash, with what stands behind them, are an escape and mean the code point v. As many octal digits as are there are taken, up
--- to three
+-- the bytes behind a backslash, with what stands behind them, are an escape and mean the code point v
 pub data IsEscape : ℕ → List ℕ → List ℕ → Type 0 where
+  -- one letter or sign, by the table
   simple : {c v : ℕ} {us : List ℕ} → simple_escape c ≡ Some v → IsEscape v (c ∷ []) us
+  -- one to three octal digits: as many as are there
   octal : (ds us : List ℕ) → AreAll is_octal ds → 0 < length ds → length ds ≤ 3 → (length ds < 3 → begins is_octal us ≡ false) → IsEscape (number_from 8 0 ds) ds us
+  -- `^` and a byte from `@` to `_`
   control : {c : ℕ} {us : List ℕ} → is_from 64 95 c ≡ true → IsEscape (c - 64) (94 ∷ c ∷ []) us
+  -- `x` and two hexadecimal digits
   hexadecimal : {c d : ℕ} {us : List ℕ} → is_hex c ≡ true → is_hex d ≡ true → IsEscape (number_from 16 0 (c ∷ d ∷ [])) (120 ∷ c ∷ d ∷ []) us
+  -- `x{`, hexadecimal digits and `}`: they stand for a Unicode scalar value
   braced : (ds : List ℕ) {us : List ℕ} → AreAll is_hex ds → 0 < length ds → IsScalar (number_from 16 0 ds) → IsEscape (number_from 16 0 ds) (120 ∷ 123 ∷ ds ++ 125 ∷ []) us
 
--- a character but a backslash, or a backslash and an escape: they mean the code point v
+-- a character or an escape, which means the code point v
 pub data IsCodePoint : ℕ → List ℕ → List ℕ → Type 0 where
+  -- a character, but a backslash
   itself : {v : ℕ} {cs us : List ℕ} → IsCharacter v cs → begins (λ c. c == 92) cs ≡ false → IsCodePoint v cs us
+  -- a backslash and an escape
   escaped : {v : ℕ} {cs us : List ℕ} → IsEscape v cs us → IsCodePoint v (92 ∷ cs) us
 
 -- characters and escapes that mean the code points vs, and then the closing quote, which begins none of them

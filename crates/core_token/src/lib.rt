@@ -4,7 +4,9 @@
 // place and its bytes. It promises the one list of tokens that the text has, or the first fault with its kind and place. A text
 // that isn't UTF-8 is refused at its first ill-formed byte, before anything else.
 //
-// What stands below tokens, as characters, escapes and places, is in core_text.
+// The rules are specs/Spelling.antt, what each sort of token is spelled like, and specs/Text.antt, which list of tokens and which
+// first fault a text has. They cite no function that reads: that what is read is what they say, and that there is one answer, is
+// proved. What stands below tokens, as characters, escapes and places, is in core_text.
 //
 // Files:
 //   token.rt      tokens, lists of tokens, and faults

@@ -99,10 +99,13 @@ fn scanned(alloc: Global, text: &[u8]) -> Result<Tokens, TokenFault>
     Ok(scan.tokens)
 }
 
-/// The tokens of a text of less than 2^32 bytes, in its order, by the rules at the head of this crate.
+/// The tokens of a text of less than 2^32 bytes, in its order: those of Core Erlang 1.0.3, but that `_` alone is a variable, `\x`
+/// begins an escape, and line ends may stand in atoms and texts.
 ///
-/// `Refused` is answered exactly where the text has a fault, and then with its first one. `Memory` is answered where memory
-/// runs out.
+/// # Errors
+///
+/// - `Refused` exactly where the text has a fault, and then with its first one.
+/// - `Memory` where memory runs out.
 #[tactic(auto, unfolding(crate::specs::Reading::read))]
 pub fn tokens(alloc: Global, text: &[u8]) -> Result<Tokens, TokenFault>
     requires short { length text.now < 2 ^ 32 }
