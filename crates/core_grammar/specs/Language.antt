@@ -5,6 +5,7 @@ use Rattle.hipe_terms.specs.declared.constant.Call.{Call}
 use Rattle.core_ast.specs.declared.tree.Module.{Module}
 use Rattle.core_grammar.specs.declared.fault.Fault.{Fault}
 use Rattle.core_grammar.specs.declared.terminal.Kind.{Kind}
+use Rattle.core_grammar.specs.declared.terminal.Mark.{Mark}
 use Rattle.core_grammar.specs.declared.terminal.Terminal.{Terminal}
 use Rattle.core_grammar.specs.Leave.{part, variable_operand, argument, Leave, token}
 use Rattle.core_grammar.specs.Grammar.{ModuleOf, CallOf}
@@ -51,9 +52,12 @@ Viable ok us = (ws : List Terminal) × (m : Module) × Derives ok (us ++ ws) m
 abbrev pub Fine : ℕ → List Terminal → Type 0
 Fine n us = (ws : List Terminal) × (m : Module) × Derives (within n (length ws)) (us ++ ws) m
 
--- a float, `receive`, `#` or `~`
+-- what Core Erlang has and the profile hasn't: floats, `receive`, `#` and `~`
 abbrev pub is_foreign : Kind → Bool
-is_foreign Kind.Foreign = true
+is_foreign Kind.Float = true
+is_foreign (Kind.Mark Mark.Receive) = true
+is_foreign (Kind.Mark Mark.Hash) = true
+is_foreign (Kind.Mark Mark.Tilde) = true
 is_foreign _ = false
 
 -- a terminal that begins what Core Erlang has and the profile hasn't: a foreign one where an integer could stand, or a

@@ -4,7 +4,7 @@ use core_ast::VariableName;
 use hipe_terms::{Atom, Place};
 use sqlite_items::Items;
 
-/// A word or a sign: a token with one spelling. The profile has no use for `after` and `timeout`.
+/// A word or a sign of the language: a token with one spelling.
 #[derive(Clone, Copy, Debug, PartialEq, Eq)]
 pub enum Mark {
     After,
@@ -22,6 +22,7 @@ pub enum Mark {
     Module,
     Of,
     Primop,
+    Receive,
     Timeout,
     Try,
     When,
@@ -51,6 +52,10 @@ pub enum Mark {
     Colon,
     /// `|`
     Bar,
+    /// `#`
+    Hash,
+    /// `~`
+    Tilde,
     /// `->`
     Arrow,
     /// `-|`
@@ -68,8 +73,8 @@ pub enum Kind {
     Natural(u64),
     /// An integer with a sign, or a character.
     Integer(i64),
-    /// What Core Erlang has and the profile hasn't: a float, `receive`, `#` or `~`.
-    Foreign,
+    /// A float, whose value nobody asks for.
+    Float,
     /// A text, as its code points.
     Text(Items<u32>),
     /// A word or a sign.

@@ -5,6 +5,7 @@ use Rattle.hipe_terms.specs.declared.constant.Call.{Call}
 use Rattle.core_ast.specs.declared.tree.Module.{Module}
 use Rattle.core_grammar.specs.declared.fault.Fault.{Fault}
 use Rattle.core_grammar.specs.declared.terminal.Kind.{Kind}
+use Rattle.core_grammar.specs.declared.terminal.Mark.{Mark}
 use Rattle.core_grammar.specs.declared.terminal.Terminal.{Terminal}
 use Rattle.core_grammar.specs.Leave.{Need, Leave, token}
 use Rattle.core_grammar.specs.Language.{Derives, DerivesCall, limit, any, any_operand, Viable, Fine, is_foreign, IsOutside, foreign_part, operand_of_call, Stops, Refused, at_terminal, at_text_end, RefusedCall, call_at_terminal, call_at_text_end, IsAnswer, IsCallAnswer}
@@ -14,7 +15,7 @@ use Rattle.core_parser.specs.Values.{Values, top, to_module, to_call}
 use Rattle.core_parser.specs.Machine.{Symbols, Move, Go, No, move, goes, why, why_not, has_operand, all_ok, run, Answer, module_start, call_start, module_read, call_read}
 use Rattle.core_parser.proofs.Meaning.{Holds, done, on, module', bare_atom, wants, make, arguments_first}
 use Rattle.core_parser.proofs.Modules.{derived_runs, derived_call_runs}
-use Rattle.core_parser.proofs.Ends.{foreign_stops, operand_free, integer_is_free}
+use Rattle.core_parser.proofs.Ends.{Foreign, float, receive, hash, tilde, foreign_kind, foreign_stops, operand_free, integer_is_free}
 use Rattle.core_parser.proofs.Refusing as R
 use Rattle.core_parser.proofs.Refusing.{read_as, refused_as, any_loose, any_operand_loose, operand_is_not_any, others_are_any, all_are_any_operand, loose_is_wider, Path, Found, found_none, found_not_allowed, found_end, find}
 
@@ -70,22 +71,29 @@ module _ (z : Place) (n : ℕ) where
       outside (foreign_part h v) = let a : true ≡ false = sym h ∙ f in cc
       outside (operand_of_call v) = stuck any_operand any_operand_loose us t ss' vs' integer path e v
 
-  pub stops : (us : List Terminal) (k : Kind) (p : Place) (ss' : Symbols) (vs' : Values) (integer : Bool) → Path z n module_start [] us ss' vs' → move ss' vs' k p ≡ No integer → Stops n us (token k p) (why k integer)
-  stops us Kind.Foreign p ss' vs' integer path e = by_integer integer (let a : No (goes (move ss' vs' (Kind.Natural 0) p)) ≡ No integer = sym (foreign_stops ss' vs' p) ∙ e in cc) (stuck any any_loose us (token Kind.Foreign p) ss' vs' integer path e) (stuck any_operand any_operand_loose us (token Kind.Foreign p) ss' vs' integer path e)
+  -- a foreign terminal that has no move
+  foreign : (u : Foreign) → is_foreign (foreign_kind u) ≡ true → (us : List Terminal) (p : Place) (ss' : Symbols) (vs' : Values) (integer : Bool) → Path z n module_start [] us ss' vs' → move ss' vs' (foreign_kind u) p ≡ No integer → Stops n us (token (foreign_kind u) p) (if integer then Fault.NotInProfile else Fault.Syntax)
+  foreign u is us p ss' vs' integer path e = by_integer integer (foreign_stops u ss' vs' p integer e) (stuck any any_loose us (token (foreign_kind u) p) ss' vs' integer path e) (stuck any_operand any_operand_loose us (token (foreign_kind u) p) ss' vs' integer path e)
     where
-      outside : goes (move ss' vs' (Kind.Natural 0) p) ≡ false → (Viable any_operand (us ++ token Kind.Foreign p ∷ []) → ⊥) → IsOutside us (token Kind.Foreign p) → ⊥
+      outside : goes (move ss' vs' (Kind.Natural 0) p) ≡ false → (Viable any_operand (us ++ token (foreign_kind u) p ∷ []) → ⊥) → IsOutside us (token (foreign_kind u) p) → ⊥
       outside g s (foreign_part h v) = integer_stuck us p ss' vs' path g v
       outside g s (operand_of_call v) = s v
 
-      by_integer : (integer : Bool) → goes (move ss' vs' (Kind.Natural 0) p) ≡ integer → (Viable any (us ++ token Kind.Foreign p ∷ []) → ⊥) → (Viable any_operand (us ++ token Kind.Foreign p ∷ []) → ⊥) → Stops n us (token Kind.Foreign p) (why Kind.Foreign integer)
-      by_integer true g s s2 = (s, foreign_part refl (integer_goes_on us p ss' vs' path g))
+      by_integer : (integer : Bool) → goes (move ss' vs' (Kind.Natural 0) p) ≡ integer → (Viable any (us ++ token (foreign_kind u) p ∷ []) → ⊥) → (Viable any_operand (us ++ token (foreign_kind u) p ∷ []) → ⊥) → Stops n us (token (foreign_kind u) p) (if integer then Fault.NotInProfile else Fault.Syntax)
+      by_integer true g s s2 = (s, foreign_part is (integer_goes_on us p ss' vs' path g))
       by_integer false g s s2 = (s, outside g s2)
+
+  pub stops : (us : List Terminal) (k : Kind) (p : Place) (ss' : Symbols) (vs' : Values) (integer : Bool) → Path z n module_start [] us ss' vs' → move ss' vs' k p ≡ No integer → Stops n us (token k p) (why k integer)
+  stops us Kind.Float p ss' vs' integer path e = foreign float refl us p ss' vs' integer path e
+  stops us (Kind.Mark Mark.Receive) p ss' vs' integer path e = foreign receive refl us p ss' vs' integer path e
+  stops us (Kind.Mark Mark.Hash) p ss' vs' integer path e = foreign hash refl us p ss' vs' integer path e
+  stops us (Kind.Mark Mark.Tilde) p ss' vs' integer path e = foreign tilde refl us p ss' vs' integer path e
+  stops us (Kind.Mark m) p ss' vs' integer path e = inside us (token (Kind.Mark m) p) ss' vs' integer path e refl
   stops us (Kind.Atom a) p ss' vs' integer path e = inside us (token (Kind.Atom a) p) ss' vs' integer path e refl
   stops us (Kind.Variable x) p ss' vs' integer path e = inside us (token (Kind.Variable x) p) ss' vs' integer path e refl
   stops us (Kind.Natural i) p ss' vs' integer path e = inside us (token (Kind.Natural i) p) ss' vs' integer path e refl
   stops us (Kind.Integer i) p ss' vs' integer path e = inside us (token (Kind.Integer i) p) ss' vs' integer path e refl
   stops us (Kind.Text s) p ss' vs' integer path e = inside us (token (Kind.Text s) p) ss' vs' integer path e refl
-  stops us (Kind.Mark m) p ss' vs' integer path e = inside us (token (Kind.Mark m) p) ss' vs' integer path e refl
 
   -- a terminal that has a move and no leave
   pub no_leave : (us : List Terminal) (t : Terminal) (ws : List Terminal) (ss' ss2 : Symbols) (vs' vs2 : Values) (needs : List Need) → Path z n module_start [] us ss' vs' → move ss' vs' t.kind t.at ≡ Go ss2 vs2 needs → all_ok (limit n) needs (t ∷ ws) ≡ false → Stops n us t (why_not needs)

@@ -26,7 +26,7 @@ use Rattle.core_parser.proofs.Meaning.{wants, make, bare_module, bare_name, bare
 -- words and signs by their codes
 
 marks : List Mark
-marks = Mark.After ∷ Mark.Apply ∷ Mark.Attributes ∷ Mark.Call ∷ Mark.Case ∷ Mark.Catch ∷ Mark.Do ∷ Mark.End ∷ Mark.Fun ∷ Mark.In ∷ Mark.Let ∷ Mark.Letrec ∷ Mark.Module ∷ Mark.Of ∷ Mark.Primop ∷ Mark.Timeout ∷ Mark.Try ∷ Mark.When ∷ Mark.OpenRound ∷ Mark.CloseRound ∷ Mark.OpenBrace ∷ Mark.CloseBrace ∷ Mark.OpenSquare ∷ Mark.CloseSquare ∷ Mark.Less ∷ Mark.Greater ∷ Mark.Comma ∷ Mark.Equals ∷ Mark.Slash ∷ Mark.Colon ∷ Mark.Bar ∷ Mark.Arrow ∷ Mark.Dash ∷ []
+marks = Mark.After ∷ Mark.Apply ∷ Mark.Attributes ∷ Mark.Call ∷ Mark.Case ∷ Mark.Catch ∷ Mark.Do ∷ Mark.End ∷ Mark.Fun ∷ Mark.In ∷ Mark.Let ∷ Mark.Letrec ∷ Mark.Module ∷ Mark.Of ∷ Mark.Primop ∷ Mark.Receive ∷ Mark.Timeout ∷ Mark.Try ∷ Mark.When ∷ Mark.OpenRound ∷ Mark.CloseRound ∷ Mark.OpenBrace ∷ Mark.CloseBrace ∷ Mark.OpenSquare ∷ Mark.CloseSquare ∷ Mark.Less ∷ Mark.Greater ∷ Mark.Comma ∷ Mark.Equals ∷ Mark.Slash ∷ Mark.Colon ∷ Mark.Bar ∷ Mark.Hash ∷ Mark.Tilde ∷ Mark.Arrow ∷ Mark.Dash ∷ []
 
 decoded : (m : Mark) → get_or marks (code m) Mark.After ≡ m
 unfolding marks
@@ -45,6 +45,7 @@ decoded Mark.Letrec = refl
 decoded Mark.Module = refl
 decoded Mark.Of = refl
 decoded Mark.Primop = refl
+decoded Mark.Receive = refl
 decoded Mark.Timeout = refl
 decoded Mark.Try = refl
 decoded Mark.When = refl
@@ -61,6 +62,8 @@ decoded Mark.Equals = refl
 decoded Mark.Slash = refl
 decoded Mark.Colon = refl
 decoded Mark.Bar = refl
+decoded Mark.Hash = refl
+decoded Mark.Tilde = refl
 decoded Mark.Arrow = refl
 decoded Mark.Dash = refl
 

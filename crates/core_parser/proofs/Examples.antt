@@ -99,7 +99,7 @@ variable_as_a_name = refl
 no_annotation_in_an_annotation : reads 9 (s Mark.Call ∷ s Mark.OpenRound ∷ s Mark.OpenRound ∷ []) ≡ refused Fault.Syntax 3
 no_annotation_in_an_annotation = refl
 
-an_integer_is_no_operand : reads 9 (s Mark.Call ∷ Kind.Foreign ∷ []) ≡ refused Fault.Syntax 2
+an_integer_is_no_operand : reads 9 (s Mark.Call ∷ s Mark.Hash ∷ []) ≡ refused Fault.Syntax 2
 an_integer_is_no_operand = refl
 
 variable_of_primop : reads 9 (s Mark.Primop ∷ v ∷ []) ≡ refused Fault.Syntax 2
@@ -107,22 +107,22 @@ variable_of_primop = refl
 
 -- what isn't in the profile: `'a'/#`, `'a'/-1`, `let X = #`, `let #`, `{1 #`, `do 1 #`
 
-foreign_arity : reads 9 (a ∷ s Mark.Slash ∷ Kind.Foreign ∷ []) ≡ refused Fault.NotInProfile 3
+foreign_arity : reads 9 (a ∷ s Mark.Slash ∷ s Mark.Hash ∷ []) ≡ refused Fault.NotInProfile 3
 foreign_arity = refl
 
 signed_arity : reads 9 (a ∷ s Mark.Slash ∷ Kind.Integer (pos 1) ∷ []) ≡ refused Fault.Syntax 3
 signed_arity = refl
 
-foreign_value : reads 9 (s Mark.Let ∷ v ∷ s Mark.Equals ∷ Kind.Foreign ∷ []) ≡ refused Fault.NotInProfile 4
+foreign_value : reads 9 (s Mark.Let ∷ v ∷ s Mark.Equals ∷ s Mark.Hash ∷ []) ≡ refused Fault.NotInProfile 4
 foreign_value = refl
 
-foreign_variable : reads 9 (s Mark.Let ∷ Kind.Foreign ∷ []) ≡ refused Fault.Syntax 2
+foreign_variable : reads 9 (s Mark.Let ∷ Kind.Float ∷ []) ≡ refused Fault.Syntax 2
 foreign_variable = refl
 
-foreign_comma : reads 9 (s Mark.OpenBrace ∷ i 1 ∷ Kind.Foreign ∷ []) ≡ refused Fault.Syntax 3
+foreign_comma : reads 9 (s Mark.OpenBrace ∷ i 1 ∷ Kind.Float ∷ []) ≡ refused Fault.Syntax 3
 foreign_comma = refl
 
-foreign_second_part : reads 9 (s Mark.Do ∷ i 1 ∷ Kind.Foreign ∷ []) ≡ refused Fault.NotInProfile 3
+foreign_second_part : reads 9 (s Mark.Do ∷ i 1 ∷ Kind.Float ∷ []) ≡ refused Fault.NotInProfile 3
 foreign_second_part = refl
 
 -- clauses: `case 1 of (PATTERN when 1 -> 2 ..`
@@ -139,7 +139,7 @@ notes ts = s Mark.Dash ∷ s Mark.OpenSquare ∷ s Mark.CloseSquare ∷ s Mark.C
 no_clause : reads 9 (case_of (s Mark.End ∷ [])) ≡ refused Fault.Syntax 4
 no_clause = refl
 
-foreign_second_clause : reads 9 (case_of (v ∷ when (Kind.Foreign ∷ []))) ≡ refused Fault.NotInProfile 9
+foreign_second_clause : reads 9 (case_of (v ∷ when (Kind.Float ∷ []))) ≡ refused Fault.NotInProfile 9
 foreign_second_clause = refl
 
 -- `( ( X -| [] ) = Y -| [] )` is one annotated alias

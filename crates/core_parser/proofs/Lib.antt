@@ -7,9 +7,9 @@ mod Ends
 mod Examples
 mod Expressions
 mod Meaning
-mod Modules
+pub mod Modules
 mod Refusing
 mod Sound
-mod OneAnswer
+pub mod OneAnswer
 mod Patterns
 mod Steps
