@@ -10,3 +10,5 @@ pub mod Parts
 pub mod Degrees
 pub mod Rules
 pub mod Good
+pub mod First
+pub mod GoodLaws

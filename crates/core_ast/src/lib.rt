@@ -8,10 +8,12 @@
 //   limits.rt     the limits of modules, each by name with its reason
 //   rule.rt       the rules of good modules
 //   good.rt       good modules
+//   laws.rt       laws of the definitions
 #![tactic(auto)]
 
 pub mod count;
 pub mod good;
+pub mod laws;
 pub mod limits;
 pub mod pattern;
 pub mod rule;
@@ -21,7 +23,10 @@ pub mod variable;
 pub use count::nodes;
 pub use good::GoodModule;
 pub use hipe_terms::Place;
+pub use laws::{
+    broken_where_not_good, one_rule_is_first, parts_have_no_more_nodes, some_rule_is_first,
+};
 pub use pattern::{PatNode, Pattern, Var};
-pub use rule::Rule;
+pub use rule::{Broken, Rule};
 pub use tree::{Clause, Expr, Fun, FunDef, FunName, Module, Node};
 pub use variable::VariableName;

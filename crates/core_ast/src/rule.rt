@@ -1,5 +1,7 @@
 // The rules of good modules.
 
+use hipe_terms::Place;
+
 /// A rule that a module of the profile must keep, beside the grammar. Where several are broken at one place, the first of
 /// these is answered.
 #[derive(Clone, Copy, Debug, PartialEq, Eq, PartialOrd, Ord)]
@@ -25,4 +27,12 @@ pub enum Rule {
     /// A function of the module with more than `NODE_LIMIT` nodes, at its name; and the `fun` of the first function beyond
     /// `FUNCTION_LIMIT`.
     SizeLimit,
+}
+
+/// A broken rule, and where it is broken.
+#[derive(Clone, Copy, Debug)]
+pub struct Broken {
+    pub rule: Rule,
+    /// The place that the rule names. Lines and code points are counted from 1.
+    pub at: Place,
 }

@@ -1,0 +1,11 @@
+-- The room for nodes.
+use Rattle.std.proofs.Common.{◌≡◌, ◌≢◌, ℕ, ◌+◌, ◌-◌, Bool, true, false, not, nat_eq, nat_lt, arith, refl}
+use Rattle.std.proofs.lemmas.Bool.Decides.{nat_tests}
+use Rattle.core_ast.specs.declared.limits.TheConstants.{NODE_LIMIT}
+use Rattle.core_ast.proofs.Levels.{levels}
+
+-- nothing is left exactly where there are more nodes than the limit
+pub room_left : (n : ℕ) → not (nat_eq (NODE_LIMIT + 1 - n) 0) ≡ not (nat_lt NODE_LIMIT n)
+room_left n = grind (arith, nat_tests)
+
+pub ruleset room = (levels, room_left)

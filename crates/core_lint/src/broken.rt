@@ -1,0 +1,62 @@
+// The first broken rule so far.
+
+ghost use Rattle.std.specs.Prelude.{◌≡◌};
+ghost use Rattle.core_ast.specs.Rules.{rank as rank_of};
+ghost use Rattle.core_lint.specs.Noted.{broken_at, is_sooner, noted_unless};
+
+use core_ast::{Place, Rule};
+
+/// A broken rule, and where it is broken.
+#[derive(Clone, Copy, Debug)]
+pub struct Broken {
+    pub rule: Rule,
+    pub at: Place,
+}
+
+// The place of a rule in the order in which the rules are answered.
+fn rank(rule: Rule) -> u8
+    ensures { result ≡ rank_of rule }
+{
+    match rule {
+        Rule::DuplicateFunction => 1,
+        Rule::ExportUndefined => 2,
+        Rule::UnboundFunction => 3,
+        Rule::UnboundVariable => 4,
+        Rule::DuplicateVariable => 5,
+        Rule::Degree => 6,
+        Rule::ArityLimit => 7,
+        Rule::UnknownPrimop => 8,
+        Rule::SizeLimit => 9,
+    }
+}
+
+// Whether a is answered before b.
+fn is_sooner(a: Broken, b: Broken) -> bool
+    ensures { result ≡ is_sooner a b }
+{
+    if a.at.line != b.at.line {
+        return a.at.line < b.at.line;
+    }
+    if a.at.col != b.at.col {
+        return a.at.col < b.at.col;
+    }
+    rank(a.rule) < rank(b.rule)
+}
+
+/// Notes a rule that is broken unless the test holds, where it is answered before the first that is known.
+pub fn note_unless(holds: bool, rule: Rule, at: Place, first: &mut Option<Broken>)
+    ensures { first.new ≡ noted_unless holds rule at first.old }
+{
+    if holds {
+        return;
+    }
+    let found = Broken { rule, at };
+    match *first {
+        Some(known) => {
+            if is_sooner(found, known) {
+                *first = Some(found);
+            }
+        }
+        None => *first = Some(found),
+    }
+}

@@ -1,0 +1,37 @@
+// The linter of Core Erlang's profile: it tells good modules from others.
+//
+// `lint` answers the module as a good one, or the first rule that it breaks with the place. Rules are broken at places; the
+// first place in the text is answered, and at one place the first rule. The rules and what is broken where are definitions of
+// `core_ast`.
+//
+// Three walks go through a module. One keeps the names in scope, in maps; one counts values, parameters and functions; one
+// counts nodes. Each visits every part once, and goes down no deeper than the levels of the module.
+//
+// Files:
+//   refusal.rt    why a module isn't good
+//   broken.rt     the first broken rule so far
+//   name.rt       names and where they are bound
+//   binding.rt    the names that a list of variables, the patterns of a clause or a group of functions binds
+//   scope.rt      the names in scope
+//   walk.rt       what the walk through the scopes knows
+//   scoping.rt    the walk through the scopes
+//   tally.rt      what the walk that counts knows
+//   counting.rt   the walk that counts
+//   sizing.rt     the nodes of a function, up to a limit
+//   linter.rt     the linter
+#![tactic(auto)]
+
+mod binding;
+mod broken;
+mod counting;
+mod linter;
+mod name;
+mod refusal;
+mod scope;
+mod scoping;
+mod sizing;
+mod tally;
+mod walk;
+
+pub use linter::lint;
+pub use refusal::LintRefusal;

@@ -1,0 +1,74 @@
+// The linter.
+
+ghost use Rattle.std.specs.Prelude.{◌≡◌, ◌+◌, [], IfOk, IfErr, MatchOption};
+ghost use Rattle.core_ast.specs.Trees.{module_of};
+ghost use Rattle.core_ast.specs.WellFormed.{IsWellFormed};
+ghost use Rattle.core_ast.specs.Good.{IsGood, IsFirstBroken};
+ghost use Rattle.core_lint.specs.Walks.{visited_module};
+ghost use Rattle.core_lint.specs.Tallies.{tallied_module};
+ghost use Rattle.core_lint.specs.Refusals.{IsRefusal};
+
+use crate::broken::Broken;
+use crate::counting::{definitions, exports};
+use crate::refusal::LintRefusal;
+use crate::scope::Scope;
+use crate::scoping;
+use crate::sizing::module_functions;
+use crate::tally::Tally;
+use crate::walk::Walk;
+use core_ast::limits::FUNCTION_LIMIT;
+use core_ast::{GoodModule, Module};
+use std::alloc::{AllocError, Global};
+
+// The first broken rule that speaks of names.
+fn names(alloc: Global, m: &Module) -> Result<Option<Broken>, AllocError>
+    ensures { IfOk result (λ first. first ≡ (visited_module (module_of m.now) (record { variables = []; functions = []; first = None })).first) }
+{
+    let mut walk = Walk {
+        variables: Scope::new(alloc),
+        functions: Scope::new(alloc),
+        first: None,
+    };
+    scoping::module(alloc, m, &mut walk)?;
+    Ok(walk.first)
+}
+
+// The first broken rule, where the first that speaks of names is known.
+fn counts(m: &Module, first: Option<Broken>) -> Option<Broken>
+    ensures { result ≡ (tallied_module (module_of m.now) (record { first = first; left = FUNCTION_LIMIT + 1 })).first }
+{
+    let mut tally = Tally {
+        first,
+        left: FUNCTION_LIMIT + 1,
+    };
+    exports(m.exports.as_slice(), &mut tally);
+    definitions(m.defs.as_slice(), &mut tally);
+    module_functions(m.defs.as_slice(), &mut tally);
+    tally.first
+}
+
+// The first broken rule.
+fn first_broken(alloc: Global, m: &Module) -> Result<Option<Broken>, AllocError>
+    ensures { IfOk result (λ first. MatchOption first (IsGood (module_of m.now)) (λ b. IsFirstBroken (module_of m.now) b.rule b.at)) }
+{
+    let first = names(alloc, m)?;
+    Ok(counts(m, first))
+}
+
+/// The module as a good one, or why it isn't: the first rule that it breaks, by the place and at one place by the order of
+/// the rules, or want of memory.
+pub fn lint(alloc: Global, m: Module) -> Result<GoodModule, LintRefusal>
+    requires { IsWellFormed (module_of m) }
+    ensures same { IfOk result (λ good. good.tree ≡ m) }
+    ensures good { IfOk result (λ _. IsGood (module_of m)) }
+    ensures refused { IfErr result (λ refusal. IsRefusal (module_of m) refusal) }
+{
+    match first_broken(alloc, &m) {
+        Ok(None) => Ok(GoodModule { tree: m }),
+        Ok(Some(broken)) => Err(LintRefusal::Broken {
+            rule: broken.rule,
+            at: broken.at,
+        }),
+        Err(_) => Err(LintRefusal::Memory),
+    }
+}
