@@ -1,1 +1,2 @@
+mod PrintTable
 pub mod Printing

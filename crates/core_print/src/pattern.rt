@@ -95,10 +95,10 @@ fn is_nil(p: &Pattern) -> bool
 
 #[cycle(pattern)]
 #[tactic(auto, using(crate::proofs::Printing::pattern_prints))]
-fn alias(alloc: Global, out: &mut String, x: &Var, part: &Pattern) -> Result<(), Memory>
-    ensures { OnOk result (string_bytes out.new ≡ followed_by (alias_pieces x.now (pattern_pieces (pattern_of part.now))) (string_bytes out.old)) }
+fn alias(alloc: Global, out: &mut String, whole: &Var, part: &Pattern) -> Result<(), Memory>
+    ensures { OnOk result (string_bytes out.new ≡ followed_by (alias_pieces whole.now (pattern_pieces (pattern_of part.now))) (string_bytes out.old)) }
 {
-    variable(out, &x.name)?;
+    variable(out, &whole.name)?;
     space(out)?;
     sign(out, "=")?;
     space(out)?;
