@@ -25,5 +25,5 @@ pub use bif::Bif;
 pub use compare::{order, order_is_total, order_tells_apart, same};
 pub use constant::{Call, Constant, is_constant};
 pub use place::Place;
-pub use text::{Memory, show};
+pub use text::{Memory, show, show_atom, show_onto};
 pub use words::words_of;

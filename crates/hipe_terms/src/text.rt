@@ -24,9 +24,10 @@ pub fn show(alloc: Global, c: &Constant) -> Result<Vec<u8>, Memory>
     Ok(text.into_bytes())
 }
 
+/// Appends the text of a constant. An error where there is no memory for it.
 #[cycle(show)]
 #[tactic(auto, using(crate::proofs::Levels::term_levels))]
-fn show_onto(alloc: Global, c: &Constant, text: &mut String) -> Result<(), Memory>
+pub fn show_onto(alloc: Global, c: &Constant, text: &mut String) -> Result<(), Memory>
     requires { IsConstant c.now }
     ensures { OnOk result (string_bytes text.new ≡ string_bytes text.old ++ shown [] (term_of c.now)) }
 {
@@ -92,8 +93,8 @@ fn show_integer(alloc: Global, n: i64, text: &mut String) -> Result<(), Memory>
     text.push_str(decimal.as_str())
 }
 
-// An atom in single quotes.
-fn show_atom(alloc: Global, atom: &Atom, text: &mut String) -> Result<(), Memory>
+/// Appends an atom in single quotes. An error where there is no memory for it.
+pub fn show_atom(alloc: Global, atom: &Atom, text: &mut String) -> Result<(), Memory>
     ensures { OnOk result (string_bytes text.new ≡ string_bytes text.old ++ quoted atom.now) }
 {
     let points = atom.code_points(alloc)?;

@@ -1,0 +1,2 @@
+mod PrintTable
+pub mod Printing

@@ -1,0 +1,7 @@
+use Rattle.core_print.proofs.Printing.{printed_is}
+use Rattle.core_ast.specs.Trees.{module_of}
+use Rattle.core_print.proofs.print.print_module.Goals as goal
+
+pub returns : goal.returns
+returns c =
+    cc (printed_is (module_of c.args.m.now), c.new-out.ensures.bytes, c.as_slice.ensures, c.in_ok-head.ensures, c.as_slice-2.ensures, c.in_ok-attributes.ensures, c.as_slice-3.ensures, c.in_ok-definitions.ensures, c.in_ok-line.ensures, c.in_ok-word.ensures, c.in_ok-line-2.ensures, c.into_bytes.ensures.value)

@@ -1,0 +1,2 @@
+-- What contracts say of the text of a module.
+pub mod Printed
