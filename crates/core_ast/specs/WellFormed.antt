@@ -1,7 +1,7 @@
 -- Well-formed trees, as the reader gives them: integers are in their range, and a list in the tail of a list is one list with it. Every call that
 -- takes a module wants this of it.
-use Rattle.std.specs.Prelude.{◌≡◌, Bool, true, false, not, ◌&&◌}
-use Rattle.std.specs.List.{list_all}
+use Rattle.std.specs.Prelude.{◌≡◌, ℕ, Bool, true, false, not, ◌&&◌, List, [], ◌∷◌}
+use Rattle.hipe_terms.specs.declared.constant.Constant.{Constant}
 use Rattle.hipe_terms.specs.Range.{is_in_range}
 use Rattle.hipe_terms.specs.Constants.{form_of}
 use Rattle.core_ast.specs.Trees.{Pattern, Patterns, no_pattern, and_pattern, Expression, Expressions, no_expression, and_expression, Clauses, no_clause, and_clause, Definitions, no_definition, and_definition, Module}
@@ -62,5 +62,12 @@ abbrev mutual
   well_formed_definitions (and_definition p f q xs body ds) = well_formed body && well_formed_definitions ds
 
 -- the constants of attributes too are as every call wants them
+abbrev pub well_formed_attributes : List (List ℕ × Constant) → Bool
+well_formed_attributes [] = true
+well_formed_attributes (a ∷ attributes) = (form_of a.1).good && well_formed_attributes attributes
+
+abbrev pub well_formed_module : Module → Bool
+well_formed_module m = well_formed_definitions m.definitions && well_formed_attributes m.attributes
+
 abbrev pub IsWellFormed : Module → Type 0
-IsWellFormed m = (well_formed_definitions m.definitions && list_all (λ a. (form_of a.1).good) m.attributes) ≡ true
+IsWellFormed m = well_formed_module m ≡ true

@@ -6,6 +6,7 @@
 //   tree.rt       modules, functions, expressions and clauses
 //   count.rt      the nodes of a function
 //   limits.rt     the limits of modules, each by name with its reason
+//   well_formed.rt  whether a tree is well formed
 //   rule.rt       the rules of good modules
 //   good.rt       good modules
 //   laws.rt       laws of the definitions
@@ -19,6 +20,7 @@ pub mod pattern;
 pub mod rule;
 pub mod tree;
 pub mod variable;
+pub mod well_formed;
 
 pub use count::nodes;
 pub use good::GoodModule;
@@ -30,3 +32,4 @@ pub use pattern::{PatNode, Pattern, Var};
 pub use rule::{Broken, Rule};
 pub use tree::{Clause, Expr, Fun, FunDef, FunName, Module, Node};
 pub use variable::VariableName;
+pub use well_formed::is_well_formed;

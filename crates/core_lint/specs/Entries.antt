@@ -7,7 +7,7 @@ use Rattle.core_ast.specs.declared.tree.FunName.{FunName}
 use Rattle.core_ast.specs.declared.rule.Rule.{Rule}
 use Rattle.core_ast.specs.Trees.{Definitions}
 use Rattle.core_ast.specs.Names.{defined}
-use Rattle.core_lint.specs.declared.broken.Broken.{Broken}
+use Rattle.core_ast.specs.declared.rule.Broken.{Broken}
 use Rattle.core_lint.specs.declared.name.Bound.{Bound}
 use Rattle.core_lint.specs.Keys.{Key, key_of, same_key}
 use Rattle.core_lint.specs.Noted.{noted_unless}

@@ -72,7 +72,10 @@ pub fn functions<'a>(alloc: Global, defs: &'a [FunDef]) -> Result<Vec<Bound<'a>>
 }
 
 /// The names of the variables of these patterns, in the order of the text.
-pub fn pattern_variables<'a>(alloc: Global, list: &'a [Pattern]) -> Result<Vec<Bound<'a>>, AllocError>
+pub fn pattern_variables<'a>(
+    alloc: Global,
+    list: &'a [Pattern],
+) -> Result<Vec<Bound<'a>>, AllocError>
     ensures { IfOk result (λ bound. map entry_of bound.items ≡ variable_entries (variables_of_all (patterns (map pattern_of list.now)))) }
 {
     let mut bound = Vec::new(alloc);

@@ -2,16 +2,10 @@
 
 ghost use Rattle.std.specs.Prelude.{◌≡◌};
 ghost use Rattle.core_ast.specs.Rules.{rank as rank_of};
-ghost use Rattle.core_lint.specs.Noted.{broken_at, is_sooner, noted_unless};
+ghost use Rattle.core_ast.specs.First.{is_sooner};
+ghost use Rattle.core_lint.specs.Noted.{noted_unless};
 
-use core_ast::{Place, Rule};
-
-/// A broken rule, and where it is broken.
-#[derive(Clone, Copy, Debug)]
-pub struct Broken {
-    pub rule: Rule,
-    pub at: Place,
-}
+use core_ast::{Broken, Place, Rule};
 
 // The place of a rule in the order in which the rules are answered.
 fn rank(rule: Rule) -> u8

@@ -4,7 +4,7 @@ ghost use Rattle.std.specs.Prelude.{◌≡◌, ◌∷◌, [], if◌then◌else�
 ghost use Rattle.core_ast.specs.Trees.{expression_of, expressions, clause_of, clauses, definition_of, definitions, function_of};
 ghost use Rattle.core_ast.specs.Places.{place_of};
 ghost use Rattle.core_ast.specs.Degrees.{degree_of, degree_of_bodies, first_degree};
-ghost use Rattle.core_lint.specs.Tallies.{tallied, tallied_each, tallied_clauses, tallied_definitions, tallied_exports, needed, limited, begun, agreed};
+ghost use Rattle.core_lint.specs.Tallies.{tallied, tallied_each, tallied_clauses, tallied_definitions, tallied_exports, needed, limited, begun};
 
 use crate::tally::{Tally, is_primop, is_raising_call, is_raising_primop};
 use core_ast::{Clause, Expr, Fun, FunDef, FunName, Node, Place, Rule};
@@ -70,9 +70,11 @@ fn expression(e: &Expr, tally: &mut Tally) -> Option<u64>
         }
         Node::Try(part, xs, body, ys, handler) => {
             several(part.get(), xs.len(), tally);
-            let degree = bodies(body.get(), handler.get(), tally);
+            let before = expression(body.get(), tally);
+            let degree = expression(handler.get(), tally);
+            tally.agree(before, degree, handler.get().at);
             tally.catch(e.at, ys.as_slice());
-            degree
+            first(before, degree)
         }
         Node::Do(first, second) => {
             expression(first.get(), tally);
@@ -123,19 +125,6 @@ fn each(list: &[Expr], tally: &mut Tally)
     }
 }
 
-// The two bodies of a `try`.
-#[cycle(counting)]
-#[tactic(auto, using(crate::proofs::Counts::counts))]
-fn bodies(body: &Expr, handler: &Expr, tally: &mut Tally) -> Option<u64>
-    ensures degree { result ≡ first_degree (degree_of (expression_of body.now)) (degree_of (expression_of handler.now)) }
-    ensures tally { tally.new ≡ agreed (degree_of (expression_of body.now)) (degree_of (expression_of handler.now)) (place_of (expression_of handler.now)) (tallied (expression_of handler.now) (tallied (expression_of body.now) tally.old)) }
-{
-    let before = expression(body, tally);
-    let degree = expression(handler, tally);
-    tally.agree(before, degree, handler.at);
-    first(before, degree)
-}
-
 // The first of two degrees that isn't every degree.
 fn first(before: Option<u64>, degree: Option<u64>) -> Option<u64>
     ensures { result ≡ first_degree before degree }
@@ -149,7 +138,13 @@ fn first(before: Option<u64>, degree: Option<u64>) -> Option<u64>
 // A clause of a `case` whose argument has this degree and this place, where the bodies before it agree on a degree.
 #[cycle(counting)]
 #[tactic(auto, using(crate::proofs::Counts::counts))]
-fn clause(c: &Clause, argument: Option<u64>, at: Place, before: Option<u64>, tally: &mut Tally) -> Option<u64>
+fn clause(
+    c: &Clause,
+    argument: Option<u64>,
+    at: Place,
+    before: Option<u64>,
+    tally: &mut Tally,
+) -> Option<u64>
     ensures degree { result ≡ first_degree before (degree_of (clause_of c.now).body) }
     ensures tally { tally.new ≡ tallied_clauses argument at before (clauses (clause_of c.now ∷ [])) tally.old }
 {

@@ -8,7 +8,6 @@ ghost use Rattle.core_lint.specs.Walks.{visited_module};
 ghost use Rattle.core_lint.specs.Tallies.{tallied_module};
 ghost use Rattle.core_lint.specs.Refusals.{IsRefusal};
 
-use crate::broken::Broken;
 use crate::counting::{definitions, exports};
 use crate::refusal::LintRefusal;
 use crate::scope::Scope;
@@ -17,7 +16,7 @@ use crate::sizing::module_functions;
 use crate::tally::Tally;
 use crate::walk::Walk;
 use core_ast::limits::FUNCTION_LIMIT;
-use core_ast::{GoodModule, Module};
+use core_ast::{Broken, GoodModule, Module};
 use std::alloc::{AllocError, Global};
 
 // The first broken rule that speaks of names.

@@ -93,7 +93,12 @@ fn bind<'a>(alloc: Global, xs: &'a [Var], walk: &mut Walk<'a>) -> Result<(), All
 // An expression in which these variables are in scope.
 #[cycle(scoping)]
 #[tactic(auto, using(core_ast::proofs::Levels::levels))]
-fn within<'a>(alloc: Global, xs: &'a [Var], body: &'a Expr, walk: &mut Walk<'a>) -> Result<(), AllocError>
+fn within<'a>(
+    alloc: Global,
+    xs: &'a [Var],
+    body: &'a Expr,
+    walk: &mut Walk<'a>,
+) -> Result<(), AllocError>
     ensures { OnOk result (walk.new ≡ within (variable_entries xs.now) (visited (expression_of body.now)) walk.old) }
 {
     let list = variables(alloc, xs)?;

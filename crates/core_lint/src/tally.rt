@@ -6,9 +6,9 @@ ghost use Rattle.core_ast.specs.Degrees.{is_raising_call, is_raising_primop};
 ghost use Rattle.core_ast.specs.Rules.{is_primop};
 ghost use Rattle.core_lint.specs.Tallies.{tested, needed, limited, begun, caught, agreed};
 
-use crate::broken::{Broken, note_unless};
+use crate::broken::note_unless;
 use core_ast::limits::ARITY_LIMIT;
-use core_ast::{Place, Rule, Var};
+use core_ast::{Broken, Place, Rule, Var};
 use hipe_terms::Atom;
 
 /// The first broken rule so far, and how many functions are left before one is beyond the limit, itself counted: 1 where the

@@ -5,10 +5,10 @@ ghost use Rattle.core_lint.specs.Entries.{entry_of};
 ghost use Rattle.core_lint.specs.Walks.{used_variable, used_function, bound as bound_of, entered_variables, left_variables, entered_functions, left_functions};
 
 use crate::binding::{function, variable};
-use crate::broken::{Broken, note_unless};
+use crate::broken::note_unless;
 use crate::name::Bound;
 use crate::scope::Scope;
-use core_ast::{FunName, Place, Rule, VariableName};
+use core_ast::{Broken, FunName, Place, Rule, VariableName};
 use std::alloc::{AllocError, Global};
 
 /// The names in scope, and the first broken rule so far.

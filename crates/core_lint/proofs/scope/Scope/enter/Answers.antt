@@ -7,7 +7,7 @@ use Rattle.core_lint.proofs.scope.Scope.enter.Goals as goal
 pub overflow_add-count : goal.overflow_add-count
 overflow_add-count c =
     let counted : c.unwrap_or-count.result ≡ occurrences (key_of c.args.name) c.self.inside.names.items =
-      c.unwrap_or-count.ensures ∙ ap (λ o. unwrap_or o 0) (c.copied.ensures ∙ c.get.ensures.value) ∙ c.self.invariant c.args.name in
+    c.unwrap_or-count.ensures ∙ ap (λ o. unwrap_or o 0) (c.copied.ensures ∙ c.get.ensures.value) ∙ c.self.invariant c.args.name in
     let le = occurrences-le (key_of c.args.name) c.self.inside.names.items in
     omega (arith, counted, le)
 
