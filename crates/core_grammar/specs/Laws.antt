@@ -1,10 +1,14 @@
 -- What holds of the grammar.
-use Rattle.std.specs.Prelude.{◌≡◌, ℕ, List, Result}
+use Rattle.std.specs.Prelude.{◌≡◌, ℕ, List, true, Result}
 use Rattle.hipe_terms.specs.declared.place.Place.{Place}
 use Rattle.hipe_terms.specs.declared.constant.Call.{Call}
 use Rattle.core_ast.specs.declared.tree.Module.{Module}
 use Rattle.core_grammar.specs.declared.fault.Fault.{Fault}
 use Rattle.core_grammar.specs.declared.terminal.Terminal.{Terminal}
+use Rattle.hipe_terms.specs.Constants.{AreConstants}
+use Rattle.core_ast.specs.Trees.{module_of}
+use Rattle.core_ast.specs.WellFormed.{IsWellFormed}
+use Rattle.core_grammar.specs.Ranges.{terminals_in_range}
 use Rattle.core_grammar.specs.Leave.{Leave}
 use Rattle.core_grammar.specs.Language.{Derives, DerivesCall, IsAnswer, IsCallAnswer}
 
@@ -30,3 +34,11 @@ SomeCallAnswer = (n : ℕ) (z : Place) (ts : List Terminal) → (r : Result Call
 
 abbrev pub OneCallAnswer : Type 0
 OneCallAnswer = (n : ℕ) (z : Place) (ts : List Terminal) (r s : Result Call Place) → IsCallAnswer n z ts r → IsCallAnswer n z ts s → r ≡ s
+
+-- modules that are derived are well formed: integers are in their range, and a list in the tail of a list is one list with it
+abbrev pub DerivedAreWellFormed : Type 0
+DerivedAreWellFormed = (ok : Leave) (ts : List Terminal) (m : Module) → terminals_in_range ts ≡ true → Derives ok ts m → IsWellFormed (module_of m)
+
+-- and the arguments of calls are as every call wants constants
+abbrev pub DerivedArgumentsAreConstants : Type 0
+DerivedArgumentsAreConstants = (ok : Leave) (ts : List Terminal) (c : Call) → terminals_in_range ts ≡ true → DerivesCall ok ts c → AreConstants c.args

@@ -4,4 +4,5 @@ pub mod Grammar
 pub mod Language
 pub mod Laws
 pub mod Leave
+pub mod Ranges
 pub mod Trees

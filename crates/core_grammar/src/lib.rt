@@ -7,11 +7,13 @@
 // Files:
 //   terminal.rt   terminals: tokens with their values
 //   fault.rt      why a list of terminals is no module
+//   law.rt        what the productions give
 //   example.rt    a module by hand
 #![tactic(auto)]
 
 pub mod example;
 pub mod fault;
+pub mod law;
 pub mod terminal;
 
 pub use fault::Fault;
