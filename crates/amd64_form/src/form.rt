@@ -1,7 +1,7 @@
 //! The table of forms, in the order of the instructions in `Inst`.
 //!
-//! A new form has a line here in `Form`, `FORMS`, `parts` and `inst`, a line in `parts_of` and `inst_of`
-//! of `specs/Form.antt`, and a line in `is_encoding` and `is_read_again` of `proofs/Rows.antt`. That no
+//! A new form has a line here in `Form`, `FORMS`, `parts` and `inst`, a line in `parts_of` and `inst_of` of
+//! `specs/Form.antt`, and a line in `is_encoding`, `in_table` and `is_read_again` of `proofs/Rows.antt`. That no
 //! two forms share bytes is computed from the table.
 
 ghost use Rattle.std.specs.Prelude.{◌≡◌, ◌+◌, ◌≤◌, length, take};

@@ -1,5 +1,5 @@
 -- Words of 64 bits as unsigned and as signed numbers, what instructions compute of them, and the flags that they leave.
-use Rattle.std.specs.Prelude.{ℕ, ◌+◌, ◌-◌, ◌*◌, ◌/◌, ◌%◌, ◌^◌, ℤ, pos, negsuc, ◌+ℤ◌, ◌-ℤ◌, ◌*ℤ◌, int_le, int_lt, int_div, int_rem, Bool, true, false, not, ◌&&◌, ◌||◌, Option, Some, None, bit_and, bit_or, bit_xor, nat_eq, nat_lt, nat_le, if◌then◌else◌}
+use Rattle.std.specs.Prelude.{◌≡◌, ℕ, ◌+◌, ◌-◌, ◌*◌, ◌/◌, ◌%◌, ◌^◌, ◌<◌, ℤ, pos, negsuc, ◌+ℤ◌, ◌-ℤ◌, ◌*ℤ◌, int_le, int_lt, int_div, int_rem, Bool, true, false, not, ◌&&◌, ◌||◌, Option, Some, None, bit_and, bit_or, bit_xor, nat_eq, nat_lt, nat_le, if◌then◌else◌}
 use Rattle.std.specs.Int.{w64, cast_unsigned, cast_signed, int_shr}
 use Rattle.amd64_form.specs.declared.operation.BinaryOp.{BinaryOp}
 use Rattle.amd64_form.specs.declared.operation.BinaryOp.TheVariants as binary
@@ -147,3 +147,15 @@ holds conditions.L f = differ f.sign f.overflow
 holds conditions.Ge f = contrary (differ f.sign f.overflow)
 holds conditions.Le f = either_of f.zero (differ f.sign f.overflow)
 holds conditions.G f = contrary (either_of f.zero (differ f.sign f.overflow))
+
+-- what the conditions say after `cmp` of two words: those that aren't named are the contrary of these
+pub record Compares (a b : ℕ) : Type 0 where
+  pub equal : holds conditions.E (flags_of_difference a b) ≡ Some (nat_eq a b)
+  pub below : holds conditions.B (flags_of_difference a b) ≡ Some (nat_lt a b)
+  pub below_or_equal : holds conditions.Be (flags_of_difference a b) ≡ Some (nat_le a b)
+  pub less : holds conditions.L (flags_of_difference a b) ≡ Some (int_lt (signed a) (signed b))
+  pub less_or_equal : holds conditions.Le (flags_of_difference a b) ≡ Some (int_le (signed a) (signed b))
+
+-- of words that are unsigned numbers, and of words that are signed ones
+abbrev pub ConditionsCompare : Type 0
+ConditionsCompare = (a b : ℕ) → a < 2 ^ 64 → b < 2 ^ 64 → Compares a b

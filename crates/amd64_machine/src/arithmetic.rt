@@ -1,6 +1,6 @@
 // What instructions compute of words, and the flags that they leave.
 ghost use Rattle.std.specs.Prelude.{◌≡◌, ◌≢◌, ◌<◌, pos, int_rem};
-ghost use Rattle.amd64_machine.specs.Arithmetic.{flags_with, flags_of_sum, flags_of_difference, flags_of_bits, flags_of_product, result_of, flags_of, sign_word, signed, double, quotient_of, divided, shifted, contrary, either_of, differ, holds};
+ghost use Rattle.amd64_machine.specs.Arithmetic.{flags_with, flags_of_sum, flags_of_difference, flags_of_bits, flags_of_product, result_of, flags_of, sign_word, signed, double, quotient_of, divided, shifted, contrary, either_of, differ, holds, ConditionsCompare};
 
 use super::state::Flags;
 use amd64_form::{BinaryOp, Condition, ShiftOp};
@@ -192,3 +192,9 @@ pub(crate) fn holds(condition: Condition, flags: Flags) -> Option<bool>
         Condition::G => contrary(either_of(flags.zero, differ(flags.sign, flags.overflow))),
     }
 }
+
+/// After `cmp a, b` the conditions compare the two words, as unsigned numbers by their order in ℕ and as signed ones by
+/// that of the numbers for which they stand in two's complement.
+pub fn conditions_compare()
+    ensures { ConditionsCompare }
+{}

@@ -29,6 +29,7 @@ mod regions;
 pub mod result;
 pub mod state;
 
+pub use arithmetic::conditions_compare;
 pub use integer::integers_in_words;
 pub use machine::{End, Machine, fetches_code};
 pub use result::ResultFault;

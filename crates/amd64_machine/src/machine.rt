@@ -23,8 +23,10 @@ pub enum End {
     Returned,
     /// All instructions that were allowed ran, and the run isn't over: it can go on.
     StepsSpent,
-    /// There is no next state at the address `at`: no instruction stands there, or what it does isn't allowed, as
-    /// an access outside the regions, or a service with another number than 0 or with a word that is no integer.
+    /// There is no next state at the address `at`: no instruction stands there, or what it does isn't allowed: an
+    /// access outside the regions or at no multiple of 8, a write to the code, a division by 0 or whose quotient
+    /// doesn't fit, a jump on a flag that isn't known, a service with another number than 0 or with a word that is no
+    /// integer.
     MachineFault { at: u64 },
 }
 

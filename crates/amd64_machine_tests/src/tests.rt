@@ -1,6 +1,8 @@
 // What no program of the input shows: steps one by one, runs that go on, and a line that isn't written.
 use amd64_machine::layout::CODE_BEGIN;
-use amd64_machine::{End, Machine, ResultFault, fetches_code, integers_in_words};
+use amd64_machine::{
+    End, Machine, ResultFault, conditions_compare, fetches_code, integers_in_words,
+};
 use hipe_edge::{CountSink, MemSink};
 use std::alloc::Global;
 use std::test::*;
@@ -70,4 +72,5 @@ fn steps(rt: HostRuntime) -> Result<(), Fail> {
 fn laws() {
     fetches_code();
     integers_in_words();
+    conditions_compare();
 }
