@@ -1,12 +1,11 @@
 -- The text of each construct and of a module, by hand. Each line is checked by computing its left side.
-use Rattle.std.proofs.Common.{◌≡◌, ℕ, pos, negsuc, List, [], ◌∷◌, ◌++◌, refl, codes}
+use Rattle.std.proofs.Common.{◌≡◌, ℕ, pos, negsuc, List, [], ◌∷◌, refl, codes}
 use Rattle.std.specs.Fmt.{digits}
 use lib.Utf8.{encode}
-use Rattle.hipe_terms.specs.declared.place.Place.{Place}
 use Rattle.core_ast.specs.declared.pattern.Var.{Var}
 use Rattle.core_ast.specs.declared.tree.FunName.{FunName}
 use Rattle.core_ast.specs.SameTree.{start}
-use Rattle.core_ast.specs.Trees.{Pattern, Patterns, no_pattern, and_pattern, Expression, Expressions, no_expression, and_expression, Clauses, no_clause, and_clause, Definitions, no_definition, and_definition, Module}
+use Rattle.core_ast.specs.Trees.{Pattern, no_pattern, and_pattern, Expression, Expressions, no_expression, and_expression, no_clause, and_clause, no_definition, and_definition}
 use Rattle.core_print.specs.Printed.{deeper, text_of, pattern_pieces, pieces, printed, opened, tail_pieces, name_pieces, alias_pieces, spaced_pieces, block_pieces, next_pieces, let_pieces, in_pieces, of_pieces, clause_pieces, fun_pieces, definition_pieces, call_pieces, primop_pieces, branch_pieces, arrow, equals, head_pieces, attributes_pieces}
 
 -- ---- trees

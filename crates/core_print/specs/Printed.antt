@@ -1,12 +1,14 @@
 -- The text of a module.
 --
--- A module is printed as a list of pieces, each of them a token of the text, a constant, a space or the end of a line.
--- Reading the text gives the pieces back: where two of them stand side by side without a space or a line between them, no
--- longer token begins at the first. Words stand between spaces and lines, but for `end`, behind which a sign may stand, and
--- an atom ends at its closing quote. Integers and variables have a sign, a space or a line on both sides, and of the signs
--- only `(`, `[`, `{`, `<`, `,`, `|` and `/` stand directly before an expression or an arity. None of them makes a token
--- with the `-` of an integer: `-|` begins with its dash, and `->` stands between spaces. There are no annotations, so a `(`
--- opens parameters or arguments.
+-- A module is printed as a list of pieces: tokens, constants, spaces and ends of lines. Reading its text gives the same pieces
+-- back, since no token goes on into the piece behind it:
+--   behind a word stands a space or a line, or behind `end` a sign;
+--   behind a variable or an integer stands a sign, a space or a line, and no sign here begins with `.`, `#` or `-` but the
+--   arrow, which has a space before it;
+--   an atom ends at its closing quote, and no atom stands directly behind another;
+--   the signs that stand directly before a `-` are `(`, `[`, `{`, `<`, `,` and `|`, and it begins an integer there: the
+--   tokens `->` and `-|` begin with the `-` and don't end with it.
+-- Nothing is annotated, so each `(` opens parameters or arguments.
 use Rattle.std.specs.Prelude.{ℕ, zero, suc, ◌+◌, ℤ, pos, Bool, true, false, nat_lt, if◌then◌else◌, List, [], ◌∷◌, ◌++◌, map, flat_map, codes}
 use Rattle.std.specs.Fmt.{signed_decimal}
 use Rattle.std.specs.List.{repeat}
@@ -49,15 +51,6 @@ spelled (Piece.Line d) = 10 ∷ indentation d
 abbrev pub text_of : List Piece → List ℕ
 text_of ps = flat_map spelled ps
 
--- a text with this piece behind it
-unfoldable pub put : Piece → List ℕ → List ℕ
-put p text = text ++ spelled p
-
--- a text with these pieces behind it
-abbrev pub followed_by : List Piece → List ℕ → List ℕ
-followed_by [] text = text
-followed_by (p ∷ ps) text = followed_by ps (put p text)
-
 -- ---- lists of pieces
 
 abbrev pub atom : List ℕ → List Piece
@@ -94,16 +87,6 @@ after_comma (x ∷ xs) = sign (codes ",") ++ x ++ after_comma xs
 abbrev pub with_commas : List (List Piece) → List Piece
 with_commas [] = []
 with_commas (x ∷ xs) = x ++ after_comma xs
-
--- a comma, but for the first of some parts
-abbrev pub comma_before : ℕ → List Piece
-comma_before zero = []
-comma_before (suc i) = sign (codes ",")
-
--- the parts from the one with this number on, where 0 is the first, with a comma before each but the first
-unfoldable pub commas_from : ℕ → List (List Piece) → List Piece
-commas_from zero xs = with_commas xs
-commas_from (suc i) xs = after_comma xs
 
 -- what opens some parts, and the parts with commas between them
 unfoldable pub opened : List ℕ → List (List Piece) → List Piece
@@ -284,3 +267,24 @@ module_pieces m = head_pieces m.name m.exports ++ attributes_pieces m.attributes
 -- the text of a module
 abbrev pub printed : Module → List ℕ
 printed m = text_of (module_pieces m)
+
+-- ---- texts that pieces are appended to, and parts from one of them on
+
+-- a text with this piece behind it
+unfoldable pub put : Piece → List ℕ → List ℕ
+put p text = text ++ spelled p
+
+-- a text with these pieces behind it
+abbrev pub followed_by : List Piece → List ℕ → List ℕ
+followed_by [] text = text
+followed_by (p ∷ ps) text = followed_by ps (put p text)
+
+-- a comma, but for the first of some parts
+abbrev pub comma_before : ℕ → List Piece
+comma_before zero = []
+comma_before (suc i) = sign (codes ",")
+
+-- the parts from the one with this number on, where 0 is the first, with a comma before each but the first
+unfoldable pub commas_from : ℕ → List (List Piece) → List Piece
+commas_from zero xs = with_commas xs
+commas_from (suc i) xs = after_comma xs
