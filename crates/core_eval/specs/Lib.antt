@@ -1,0 +1,2 @@
+-- What contracts say of runs.
+pub mod Evaluations

@@ -1,0 +1,4 @@
+-- What contracts say of values.
+pub mod Values
+pub mod Integers
+pub mod Results
