@@ -1,12 +1,12 @@
 -- Folds of values and constants, by what they are made of.
-use Rattle.std.proofs.Common.{◌≡◌, ℕ, ◌+◌, map, sum, length, refl, ◌∙◌, ap}
+use Rattle.std.proofs.Common.{◌≡◌, map, refl, ◌∙◌}
 use Rattle.hipe_terms.specs.Terms.{Term, integer, atom, nil, cons, tuple, fun, terms}
 use Rattle.hipe_terms.specs.declared.constant.Constant.TheViews as ConstantViews
 use Rattle.hipe_terms.proofs.Levels.{words_is, term_is}
-use Rattle.core_values.specs.declared.value.Cell.{Cell, out-Cell}
+use Rattle.core_values.specs.declared.value.Cell.{Cell}
 use Rattle.core_values.specs.declared.value.Value.{Value, out-Value}
-use Rattle.core_values.specs.declared.value.Value.TheOpen.{Value-F, Cell-F}
-use Rattle.core_values.specs.declared.value.Value.TheFolds.{fold_out-Value, fold_out-Cell, fold-Value, fold-Cell, map-Value, map-Cell}
+use Rattle.core_values.specs.declared.value.Value.TheOpen.{Value-F}
+use Rattle.core_values.specs.declared.value.Value.TheFolds.{fold_out-Value, fold_out-Cell, fold-Value, fold-Cell, map-Value}
 use Rattle.core_values.specs.declared.value.Value.TheViews.{the_lemmas}
 use Rattle.core_values.specs.Values.{value_at, cell_at, term_in, cell_in}
 
@@ -31,7 +31,7 @@ pub value_is : (v : Value) → term_in v ≡ level_value (out-Value v)
 unfolding term_in
 value_is v = fold_out-Value Term Term value_at cell_at v ∙ value_level (out-Value v)
 
-pub cell_is : (c : Cell) → cell_in c ≡ cons (term_in (out-Cell c).head) (term_in (out-Cell c).tail)
+pub cell_is : (c : Cell) → cell_in c ≡ cons (term_in c.head) (term_in c.tail)
 unfolding term_in cell_in
 cell_is c = fold_out-Cell Term Term value_at cell_at c
 

@@ -2,3 +2,6 @@
 pub mod Values
 pub mod Integers
 pub mod Results
+pub mod Shapes
+pub mod Pairs
+pub mod ShortTexts

@@ -1,5 +1,5 @@
 -- The terms that values stand for.
-use Rattle.std.specs.Prelude.{ℕ, List, map, Option, Some, None}
+use Rattle.std.specs.Prelude.{List, map}
 use Rattle.hipe_terms.specs.Terms.{Term, integer, atom, nil, cons, tuple, fun, terms}
 use Rattle.core_values.specs.declared.value.Cell.{Cell}
 use Rattle.core_values.specs.declared.value.Value.{Value}

@@ -1,7 +1,7 @@
 // The atoms that a run makes itself.
 
-ghost use Rattle.std.specs.Prelude.{◌≡◌, ◌≤◌, codes, length, chars, string_bytes, IfOk};
-ghost use Rattle.hipe_terms.specs.declared.limits.TheConstants.{ATOM_LIMIT};
+ghost use Rattle.std.specs.Prelude.{◌≡◌, codes, IsTrue, IfOk};
+ghost use Rattle.core_values.specs.ShortTexts.{is_short};
 
 use hipe_terms::Atom;
 use std::alloc::{AllocError, Global};
@@ -61,10 +61,10 @@ impl Atoms {
     }
 }
 
-// The atom of a text of at most 255 code points.
+// The atom of a short text of ASCII.
 fn atom(alloc: Global, text: &str) -> Result<Atom, AllocError>
-    requires { length (chars text.now) ≤ ATOM_LIMIT }
-    ensures { IfOk result (λ a. a ≡ chars text.now) }
+    requires { IsTrue (is_short text.now) }
+    ensures { IfOk result (λ a. a ≡ text.now) }
 {
     match Atom::new(String::from_str(alloc, text)?) {
         Ok(a) => Ok(a),

@@ -5,7 +5,7 @@ ghost use Rattle.hipe_terms.specs.Terms.{term_of};
 ghost use Rattle.hipe_terms.specs.Words.{words_of};
 ghost use Rattle.core_values.specs.Values.{term_in, terms_in};
 
-use crate::list::cells;
+use crate::list::{cells, tuple};
 use crate::value::Value;
 use bumpalo::Bump;
 use hipe_terms::Constant;
@@ -28,7 +28,7 @@ pub fn value_of<'a>(alloc: Global, bump: &'a Bump, c: &'a Constant) -> Result<Va
         }
         Constant::Tuple(parts) => {
             let elements = values_of(alloc, bump, parts.as_slice())?;
-            Ok(Value::Tuple(bump.try_alloc_slice_copy(elements.as_slice())?))
+            tuple(bump, elements.as_slice())
         }
     }
 }

@@ -103,5 +103,5 @@ fn floor(a: i64, n: u64) -> i64
     if n >= 63 {
         return if a < 0 { -1 } else { 0 };
     }
-    a.div_euclid(1 << n)
+    a >> n
 }

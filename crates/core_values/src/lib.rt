@@ -12,6 +12,9 @@
 //   compare.rt    the order of values
 //   integer.rt    arithmetic
 //   result.rt     how a built-in function ends
+//   ends.rt       what built-in functions stand on, and how they end
+//   numbers.rt    the built-in functions on integers
+//   data.rt       the built-in functions on Booleans, lists, tuples and funs
 //   bifs.rt       the built-in functions
 #![tactic(auto)]
 
@@ -19,15 +22,19 @@ pub mod atoms;
 pub mod bifs;
 pub mod compare;
 pub mod constant;
+pub mod data;
+pub mod ends;
 pub mod integer;
 pub mod list;
+pub mod numbers;
 pub mod result;
 pub mod value;
 
 pub use atoms::Atoms;
-pub use bifs::{Ground, perform};
+pub use bifs::perform;
 pub use compare::order;
 pub use constant::{value_of, values_of, words_of, words_of_all};
-pub use list::{cells, elements};
+pub use ends::{Ground, same_atom};
+pub use list::{cells, elements, tuple};
 pub use result::{Class, End, Outcome};
-pub use value::{Cell, Value};
+pub use value::{Cell, Shape, Value, shape_of};
