@@ -1,2 +1,0 @@
--- What contracts say of runs.
-pub mod Evaluations

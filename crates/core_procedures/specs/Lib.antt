@@ -1,2 +1,0 @@
--- What contracts say of scopes and functions.
-pub mod Shown
