@@ -17,6 +17,7 @@ use sqlite_items::{Items, at};
 use std::alloc::AllocError;
 
 impl<'a> Ground<'a> {
+    /// `not`.
     #[tactic(auto, using(crate::proofs::Rules::booleans))]
     pub fn negation(self, a: Value<'a>) -> Outcome<'a>
         ensures { outcome_in result ≡ negation (term_in a.entry) }
@@ -27,6 +28,7 @@ impl<'a> Ground<'a> {
         }
     }
 
+    /// `and`.
     #[tactic(auto, using(crate::proofs::Rules::booleans))]
     pub fn both(self, a: Value<'a>, b: Value<'a>) -> Outcome<'a>
         ensures { outcome_in result ≡ boolean (λ x y. x && y) (term_in a.entry) (term_in b.entry) }
@@ -40,6 +42,7 @@ impl<'a> Ground<'a> {
         }
     }
 
+    /// `or`.
     #[tactic(auto, using(crate::proofs::Rules::booleans))]
     pub fn either(self, a: Value<'a>, b: Value<'a>) -> Outcome<'a>
         ensures { outcome_in result ≡ boolean (λ x y. x || y) (term_in a.entry) (term_in b.entry) }
@@ -53,6 +56,7 @@ impl<'a> Ground<'a> {
         }
     }
 
+    /// `hd`.
     pub fn head(self, a: Value<'a>) -> Outcome<'a>
         ensures { outcome_in result ≡ head (term_in a.entry) }
     {
@@ -64,6 +68,7 @@ impl<'a> Ground<'a> {
         }
     }
 
+    /// `tl`.
     pub fn tail(self, a: Value<'a>) -> Outcome<'a>
         ensures { outcome_in result ≡ tail (term_in a.entry) }
     {
@@ -75,6 +80,7 @@ impl<'a> Ground<'a> {
         }
     }
 
+    /// `length` of a proper list. An error where there is no memory for its elements.
     #[tactic(auto, using(crate::proofs::Rules::lists))]
     pub fn length(self, a: Value<'a>) -> Result<Outcome<'a>, AllocError>
         ensures { IfOk result (λ o. outcome_in o ≡ length_of (term_in a.entry)) }
@@ -99,6 +105,7 @@ impl<'a> Ground<'a> {
         }
     }
 
+    /// `tuple_size`.
     #[tactic(auto, using(crate::proofs::Rules::tuples))]
     pub fn tuple_size(self, a: Value<'a>) -> Outcome<'a>
         ensures { outcome_in result ≡ size_of (term_in a.entry) }
@@ -111,6 +118,7 @@ impl<'a> Ground<'a> {
         }
     }
 
+    /// `element`: elements are counted from 1.
     #[tactic(auto, using(crate::proofs::Rules::tuples))]
     pub fn element(self, a: Value<'a>, b: Value<'a>) -> Outcome<'a>
         ensures { outcome_in result ≡ element (term_in a.entry) (term_in b.entry) }

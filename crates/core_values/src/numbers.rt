@@ -40,6 +40,7 @@ pub fn integers_of(a: Value<'_>, b: Value<'_>) -> Option<(i64, i64)>
 
 #[tactic(auto, using(crate::proofs::Arithmetic::numbers))]
 impl<'a> Ground<'a> {
+    /// `+`.
     pub fn added(self, a: Value<'a>, b: Value<'a>) -> Outcome<'a>
         ensures { outcome_in result ≡ arithmetic (λ m n. m +ℤ n) (term_in a.entry) (term_in b.entry) }
     {
@@ -49,6 +50,7 @@ impl<'a> Ground<'a> {
         }
     }
 
+    /// `-` of two integers.
     pub fn subtracted(self, a: Value<'a>, b: Value<'a>) -> Outcome<'a>
         ensures { outcome_in result ≡ arithmetic (λ m n. m -ℤ n) (term_in a.entry) (term_in b.entry) }
     {
@@ -58,6 +60,7 @@ impl<'a> Ground<'a> {
         }
     }
 
+    /// `*`.
     pub fn multiplied(self, a: Value<'a>, b: Value<'a>) -> Outcome<'a>
         ensures { outcome_in result ≡ arithmetic (λ m n. m *ℤ n) (term_in a.entry) (term_in b.entry) }
     {
@@ -67,6 +70,7 @@ impl<'a> Ground<'a> {
         }
     }
 
+    /// `-` of one integer.
     pub fn negated(self, a: Value<'a>) -> Outcome<'a>
         ensures { outcome_in result ≡ negated (term_in a.entry) }
     {
@@ -76,6 +80,7 @@ impl<'a> Ground<'a> {
         }
     }
 
+    /// `div`.
     pub fn divided(self, a: Value<'a>, b: Value<'a>) -> Outcome<'a>
         ensures { outcome_in result ≡ divided (term_in a.entry) (term_in b.entry) }
     {
@@ -90,6 +95,7 @@ impl<'a> Ground<'a> {
         }
     }
 
+    /// `rem`.
     pub fn remainder(self, a: Value<'a>, b: Value<'a>) -> Outcome<'a>
         ensures { outcome_in result ≡ remainder (term_in a.entry) (term_in b.entry) }
     {
@@ -104,6 +110,7 @@ impl<'a> Ground<'a> {
         }
     }
 
+    /// `band`.
     pub fn bits_and(self, a: Value<'a>, b: Value<'a>) -> Outcome<'a>
         ensures { outcome_in result ≡ bitwise (int_bit_and w64) (term_in a.entry) (term_in b.entry) }
     {
@@ -113,6 +120,7 @@ impl<'a> Ground<'a> {
         }
     }
 
+    /// `bor`.
     pub fn bits_or(self, a: Value<'a>, b: Value<'a>) -> Outcome<'a>
         ensures { outcome_in result ≡ bitwise (int_bit_or w64) (term_in a.entry) (term_in b.entry) }
     {
@@ -122,6 +130,7 @@ impl<'a> Ground<'a> {
         }
     }
 
+    /// `bxor`.
     pub fn bits_xor(self, a: Value<'a>, b: Value<'a>) -> Outcome<'a>
         ensures { outcome_in result ≡ bitwise (int_bit_xor w64) (term_in a.entry) (term_in b.entry) }
     {
@@ -131,6 +140,7 @@ impl<'a> Ground<'a> {
         }
     }
 
+    /// `bnot`.
     pub fn bits_turned(self, a: Value<'a>) -> Outcome<'a>
         ensures { outcome_in result ≡ bits_turned (term_in a.entry) }
     {
@@ -140,6 +150,7 @@ impl<'a> Ground<'a> {
         }
     }
 
+    /// `bsl`.
     pub fn shifted_left(self, a: Value<'a>, b: Value<'a>) -> Outcome<'a>
         ensures { outcome_in result ≡ arithmetic shifted_left (term_in a.entry) (term_in b.entry) }
     {
@@ -149,6 +160,7 @@ impl<'a> Ground<'a> {
         }
     }
 
+    /// `bsr`.
     pub fn shifted_right(self, a: Value<'a>, b: Value<'a>) -> Outcome<'a>
         ensures { outcome_in result ≡ arithmetic shifted_right (term_in a.entry) (term_in b.entry) }
     {
