@@ -1,0 +1,2 @@
+-- Lemmas of stacks.
+pub mod Reversed

@@ -1,0 +1,2 @@
+-- Lemmas of the parser's values.
+pub mod Empty
