@@ -7,7 +7,7 @@ use hipe_terms::Constant;
 use sqlite_items::Items;
 use std::alloc::{AllocError, Global};
 
-// A tuple of two integers.
+/// A tuple of two integers, which takes three words.
 #[tactic(auto, using(crate::proofs::Constants::constants))]
 pub fn pair(alloc: Global) -> Result<Constant, AllocError>
     ensures { IfOk result (λ c. words_of c ≡ 3) }
