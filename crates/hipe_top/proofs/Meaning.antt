@@ -14,11 +14,11 @@ use Rattle.amd64_machine.specs.declared.layout.TheConstants.{CODE_BEGIN, STACK_B
 use Rattle.amd64_machine.specs.Integer.{IsInteger, word_of}
 use Rattle.amd64_machine.specs.Machine.{Over, Returned, start, zeros}
 use Rattle.amd64_machine.proofs.Fetching.{fetches}
-use Rattle.core_reader.specs.declared.sum.Sum.{Sum, roll-Sum}
-use Rattle.core_reader.specs.declared.sum.Sum.TheOpen.{Sum-F}
-use Rattle.core_reader.specs.declared.sum.Sum.TheFolds.{ind-Sum, map-Sum}
-use Rattle.core_reader.specs.Sums.{int_of, plus_of, value, count_of, HasSmallIntegers}
-use Rattle.core_reader.proofs.Levels.{value-int, count-int, count-plus, farthest-plus}
+use Rattle.sum_reader.specs.declared.sum.Sum.{Sum, roll-Sum}
+use Rattle.sum_reader.specs.declared.sum.Sum.TheOpen.{Sum-F}
+use Rattle.sum_reader.specs.declared.sum.Sum.TheFolds.{ind-Sum, map-Sum}
+use Rattle.sum_reader.specs.Sums.{int_of, plus_of, value, count_of, HasSmallIntegers}
+use Rattle.sum_reader.proofs.Levels.{value-int, count-int, count-plus, farthest-plus}
 use Rattle.hipe_top.specs.Code.{Code, addition, evaluation, ending, bytes_of, code_for, EndsWith}
 use Rattle.hipe_top.proofs.Levels.{evaluation-int, evaluation-plus}
 use Rattle.hipe_top.proofs.Simulation.{Has, Within, sum_runs, end_runs, small_value}

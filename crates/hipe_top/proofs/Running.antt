@@ -8,11 +8,11 @@ use Rattle.hipe_edge.specs.Bytes.{AppendsPrefix, TakesCount}
 use Rattle.hipe_edge.specs.Counts.{Rises}
 use Rattle.hipe_edge.specs.declared.reading.ReadAllFault.{ReadAllFault}
 use Rattle.hipe_edge.specs.declared.reading.ReadAllFault.TheVariants as reads
-use Rattle.core_reader.specs.declared.sum.Sum.{Sum}
-use Rattle.core_reader.specs.declared.sum.SumRefusal.{SumRefusal}
-use Rattle.core_reader.specs.declared.sum.SumRefusal.TheVariants as refusals
-use Rattle.core_reader.specs.Sums.{value}
-use Rattle.core_reader.specs.Text.{IsSumText}
+use Rattle.sum_reader.specs.declared.sum.Sum.{Sum}
+use Rattle.sum_reader.specs.declared.sum.SumRefusal.{SumRefusal}
+use Rattle.sum_reader.specs.declared.sum.SumRefusal.TheVariants as refusals
+use Rattle.sum_reader.specs.Sums.{value}
+use Rattle.sum_reader.specs.Text.{IsSumText}
 use Rattle.amd64_machine.specs.declared.result.ResultFault.{ResultFault}
 use Rattle.amd64_machine.specs.declared.result.ResultFault.TheVariants as results
 use Rattle.amd64_machine.specs.Machine.{State, Over, Ending, Returned, start, machine_step, machine_run}

@@ -14,12 +14,12 @@ use Rattle.amd64_machine.specs.Integer.{IsInteger, word_of, integer_at}
 use Rattle.amd64_machine.specs.Machine.{Registers, State, On, Over, Returned, put, pushed, popped, returned, act, below, machine_run}
 use Rattle.amd64_machine.specs.Arithmetic.{wrap}
 use Rattle.amd64_machine.specs.Regions.{spot, word_at, stack_with, read_at, written_at, InStack}
-use Rattle.core_reader.specs.declared.sum.Sum.{Sum, roll-Sum}
-use Rattle.core_reader.specs.declared.sum.Sum.TheOpen.{Sum-F}
-use Rattle.core_reader.specs.declared.sum.Sum.TheFolds.{ind-Sum, map-Sum}
-use Rattle.core_reader.specs.Sums.{int_of, plus_of, value, count_of, HasSmallIntegers, IsWithin}
-use Rattle.core_reader.proofs.Levels.{value-int, value-plus, count-int, count-plus, farthest-plus}
-use Rattle.core_reader.proofs.Values.{value_within}
+use Rattle.sum_reader.specs.declared.sum.Sum.{Sum, roll-Sum}
+use Rattle.sum_reader.specs.declared.sum.Sum.TheOpen.{Sum-F}
+use Rattle.sum_reader.specs.declared.sum.Sum.TheFolds.{ind-Sum, map-Sum}
+use Rattle.sum_reader.specs.Sums.{int_of, plus_of, value, count_of, HasSmallIntegers, IsWithin}
+use Rattle.sum_reader.proofs.Levels.{value-int, value-plus, count-int, count-plus, farthest-plus}
+use Rattle.sum_reader.proofs.Values.{value_within}
 use Rattle.hipe_top.specs.Code.{Code, addition, ending, evaluation}
 use Rattle.hipe_top.proofs.Levels.{evaluation-int, evaluation-plus}
 

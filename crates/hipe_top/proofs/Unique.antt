@@ -1,9 +1,9 @@
 -- Words and bytes have one answer.
 use Rattle.std.proofs.Common.{◌≡◌, ℕ, ◌<◌, ◌≤◌, List, length, Some, refl, sym, ap, ◌∙◌, arith}
-use Rattle.core_reader.specs.declared.sum.Sum.{Sum}
-use Rattle.core_reader.specs.Sums.{value}
-use Rattle.core_reader.specs.Text.{IsSumText}
-use Rattle.core_reader.proofs.Texts.{text_there}
+use Rattle.sum_reader.specs.declared.sum.Sum.{Sum}
+use Rattle.sum_reader.specs.Sums.{value}
+use Rattle.sum_reader.specs.Text.{IsSumText}
+use Rattle.sum_reader.proofs.Texts.{text_there}
 use Rattle.amd64_machine.specs.Result.{value_line}
 use Rattle.hipe_top.specs.Answers.{Answer, answered, Expected, bad_words, too_long, no_sum, sum, HaveOneAnswer}
 

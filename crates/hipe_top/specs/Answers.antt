@@ -1,8 +1,8 @@
 -- What the program answers where memory is found and no read or write fails.
 use Rattle.std.specs.Prelude.{◌≡◌, ℕ, ◌<◌, ◌≤◌, List, [], length}
-use Rattle.core_reader.specs.declared.sum.Sum.{Sum}
-use Rattle.core_reader.specs.Sums.{value}
-use Rattle.core_reader.specs.Text.{IsSumText}
+use Rattle.sum_reader.specs.declared.sum.Sum.{Sum}
+use Rattle.sum_reader.specs.Sums.{value}
+use Rattle.sum_reader.specs.Text.{IsSumText}
 use Rattle.amd64_machine.specs.Result.{value_line}
 use Rattle.hipe_top.specs.declared.limits.TheConstants.{TEXT_LIMIT}
 use Rattle.hipe_top.specs.declared.stop.Stop.{Stop}

@@ -4,9 +4,9 @@ use Rattle.std.specs.Prelude.{◌≡◌, ◌≢◌, ◌⊎◌, ◌↔◌, ℕ, �
 use Rattle.std.specs.Io.KnownBytes.{Appends, Keeps, Consumes}
 use Rattle.hipe_edge.specs.Bytes.{AppendsPrefix}
 use Rattle.hipe_edge.specs.Counts.{Rises}
-use Rattle.core_reader.specs.declared.sum.Sum.{Sum}
-use Rattle.core_reader.specs.Sums.{value}
-use Rattle.core_reader.specs.Text.{IsSumText}
+use Rattle.sum_reader.specs.declared.sum.Sum.{Sum}
+use Rattle.sum_reader.specs.Sums.{value}
+use Rattle.sum_reader.specs.Text.{IsSumText}
 use Rattle.amd64_machine.specs.Result.{value_line}
 use Rattle.hipe_top.specs.declared.limits.TheConstants.{TEXT_LIMIT}
 use Rattle.hipe_top.specs.declared.stop.Stop.{Stop}

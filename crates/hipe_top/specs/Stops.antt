@@ -2,8 +2,8 @@
 use Rattle.std.specs.Prelude.{ℕ, List, [], ◌∷◌, ◌++◌, codes}
 use Rattle.hipe_edge.specs.declared.reading.ReadAllFault.{ReadAllFault}
 use Rattle.hipe_edge.specs.declared.reading.ReadAllFault.TheVariants as reads
-use Rattle.core_reader.specs.declared.sum.SumRefusal.{SumRefusal}
-use Rattle.core_reader.specs.declared.sum.SumRefusal.TheVariants as refusals
+use Rattle.sum_reader.specs.declared.sum.SumRefusal.{SumRefusal}
+use Rattle.sum_reader.specs.declared.sum.SumRefusal.TheVariants as refusals
 use Rattle.amd64_machine.specs.declared.result.ResultFault.{ResultFault}
 use Rattle.amd64_machine.specs.declared.result.ResultFault.TheVariants as results
 use Rattle.hipe_top.specs.declared.stop.Stop.{Stop}

@@ -1,15 +1,15 @@
 // Running the text of a sum.
 ghost use Rattle.std.specs.Prelude.{◌≤◌};
-ghost use Rattle.core_reader.specs.Sums.{HasSmallIntegers, count_of};
+ghost use Rattle.sum_reader.specs.Sums.{HasSmallIntegers, count_of};
 ghost use Rattle.hipe_top.specs.Outcome.{RanSum, RanText, stream};
 
 use super::code::code_of;
 use super::limits::{MOST_INTEGERS, STEPS, TEXT_LIMIT};
 use super::stop::Stop;
 use amd64_machine::Machine;
-use core_reader::{Sum, read_sum};
 use hipe_edge::{Sink, Source, read_all};
 use std::alloc::Global;
+use sum_reader::{Sum, read_sum};
 
 // Makes the code of a sum, runs it and writes the line of its value.
 fn run_sum<O: Sink>(alloc: Global, e: &Sum, steps: u64, out: &mut O) -> Result<(), Stop>

@@ -5,9 +5,9 @@ ghost use Rattle.hipe_top.specs.Outcome.{Reported, stream};
 ghost use Rattle.hipe_top.specs.Stops.{status_of, status_unwritten, line_of, stop_of_reading, stop_of_refusal, stop_of_result};
 
 use amd64_machine::ResultFault;
-use core_reader::SumRefusal;
 use hipe_edge::{ReadAllFault, Sink, write_line};
 use std::alloc::AllocError;
+use sum_reader::SumRefusal;
 
 /// Why the program stops without a value.
 #[derive(Clone, Copy, Debug, PartialEq, Eq)]

@@ -1,11 +1,11 @@
 // The whole program in memory: worked texts, refusals, and calls that fail.
 use super::code::code_of;
 use super::top::hipe_alone;
-use core_reader::Sum;
 use hipe_edge::{CountSink, MemSink, MemSource, SureSource};
 use std::alloc::{AllocError, Global};
 use std::process::Abort;
 use std::test::Fail;
+use sum_reader::Sum;
 
 const BEFORE: &str = "module 'm' ['main'/0] attributes [] 'main'/0 = fun () -> ";
 

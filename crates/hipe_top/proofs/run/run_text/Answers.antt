@@ -1,6 +1,6 @@
 use Rattle.std.proofs.Common.{sym, subst, arith}
 use Rattle.std.proofs.lemmas.Result.{err_from_is_err_and}
-use Rattle.core_reader.specs.Text.{IsSumText}
+use Rattle.sum_reader.specs.Text.{IsSumText}
 use Rattle.hipe_top.proofs.Running.{text_not_read, sum_not_read, text_run}
 use Rattle.hipe_top.proofs.run.run_text.Goals as goal
 

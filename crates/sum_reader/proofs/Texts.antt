@@ -1,11 +1,11 @@
 -- The reader's texts are the texts of sums.
 use Rattle.std.proofs.Common.{◌≡◌, ℕ, ◌+◌, ◌≤◌, Bool, true, false, cond, nat_eq, nat_lt, List, [], ◌∷◌, length, Option, Some, None, codes, refl, ap, ◌∙◌, subst, arith}
 use Rattle.std.proofs.lemmas.Bool.Decides.{nat_tests}
-use Rattle.core_reader.specs.declared.sum.Sum.{Sum}
-use Rattle.core_reader.specs.Text.{Spaced, Word, Begins, exporting, no_attributes, before_sum, greatest_level, BeginsSum, IsSumText}
-use Rattle.core_reader.specs.Reading.{◌>>=◌, skipped, after_word, after_all, sum_at, is_blank, is_end, ended, definition_at, body_at, whole_at, read}
-use Rattle.core_reader.proofs.Tokens.{bind_some, bound, spaced, skipped_at, found, there, all_found, all_there, AllShow}
-use Rattle.core_reader.proofs.Sums.{sum_found, sum_there}
+use Rattle.sum_reader.specs.declared.sum.Sum.{Sum}
+use Rattle.sum_reader.specs.Text.{Spaced, Word, Begins, exporting, no_attributes, before_sum, greatest_level, BeginsSum, IsSumText}
+use Rattle.sum_reader.specs.Reading.{◌>>=◌, skipped, after_word, after_all, sum_at, is_blank, is_end, ended, definition_at, body_at, whole_at, read}
+use Rattle.sum_reader.proofs.Tokens.{bind_some, bound, spaced, skipped_at, found, there, all_found, all_there, AllShow}
+use Rattle.sum_reader.proofs.Sums.{sum_found, sum_there}
 
 -- the end
 abbrev IsEnd : List ℕ → Type 0

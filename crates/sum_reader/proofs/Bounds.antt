@@ -1,10 +1,10 @@
 -- What a text of some length can hold.
 use Rattle.std.proofs.Common.{ℕ, ◌+◌, ◌*◌, ◌≤◌, ◌<◌, ℤ, List, [], ◌∷◌, ◌++◌, length, codes, ap, length-append, arith}
-use Rattle.core_reader.specs.declared.sum.Sum.{Sum}
-use Rattle.core_reader.specs.Sums.{count_of, levels_of, farthest, HasSmallIntegers}
-use Rattle.core_reader.specs.Text.{Spaced, here, space, Token, Word, Sign, Name, Spells, word, sign, name, Begins, BeginsAll, SpellsInteger, unsigned, plus, minus, BeginsInteger, exporting, no_attributes, before_sum, before_parts, greatest_level, BeginsSum, integer, call, IsSumText}
-use Rattle.core_reader.proofs.Levels.{count-int, count-plus, levels-int, levels-plus, farthest-int, farthest-plus}
-use Rattle.core_reader.proofs.Integers.{integer_small}
+use Rattle.sum_reader.specs.declared.sum.Sum.{Sum}
+use Rattle.sum_reader.specs.Sums.{count_of, levels_of, farthest, HasSmallIntegers}
+use Rattle.sum_reader.specs.Text.{Spaced, here, space, Token, Word, Sign, Name, Spells, word, sign, name, Begins, BeginsAll, SpellsInteger, unsigned, plus, minus, BeginsInteger, exporting, no_attributes, before_sum, before_parts, greatest_level, BeginsSum, integer, call, IsSumText}
+use Rattle.sum_reader.proofs.Levels.{count-int, count-plus, levels-int, levels-plus, farthest-int, farthest-plus}
+use Rattle.sum_reader.proofs.Integers.{integer_small}
 
 -- the fewest bytes of a token
 abbrev size : Token → ℕ

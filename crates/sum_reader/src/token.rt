@@ -3,8 +3,8 @@
 ghost use Rattle.std.specs.Prelude.{◌≡◌, ℕ, ◌+◌, ◌-◌, ◌*◌, ◌^◌, ◌<◌, ◌≤◌, length, drop};
 ghost use Rattle.std.specs.List.{prefix_len};
 ghost use Rattle.std.specs.Option.{option_copied, option_map};
-ghost use Rattle.core_reader.specs.Text.{is_space, is_digit, is_name_byte, is_word_byte, before_sum, before_parts};
-ghost use Rattle.core_reader.specs.Reading.{skipped, begins, after_sign, after_word, after_name, after_quoted, after_all, number_from, digits_at, integer_at};
+ghost use Rattle.sum_reader.specs.Text.{is_space, is_digit, is_name_byte, is_word_byte, before_sum, before_parts};
+ghost use Rattle.sum_reader.specs.Reading.{skipped, begins, after_sign, after_word, after_name, after_quoted, after_all, number_from, digits_at, integer_at};
 
 // The most bytes of a module's name.
 const LONGEST_NAME: usize = 255;

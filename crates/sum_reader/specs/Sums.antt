@@ -1,9 +1,9 @@
 -- Sums, and what is counted in them.
 use Rattle.std.specs.Prelude.{ℕ, ◌+◌, ◌≤◌, max, ℤ, pos, neg_ℤ, ◌+ℤ◌, ◌≤ℤ◌}
 use Rattle.std.specs.Int.RustNames.{unsigned_abs}
-use Rattle.core_reader.specs.declared.sum.Sum.{Sum, roll-Sum}
-use Rattle.core_reader.specs.declared.sum.Sum.TheOpen.{Sum-F}
-use Rattle.core_reader.specs.declared.sum.Sum.TheFolds.{fold-Sum}
+use Rattle.sum_reader.specs.declared.sum.Sum.{Sum, roll-Sum}
+use Rattle.sum_reader.specs.declared.sum.Sum.TheOpen.{Sum-F}
+use Rattle.sum_reader.specs.declared.sum.Sum.TheFolds.{fold-Sum}
 
 -- an integer as a sum
 unfoldable pub int_of : ℤ → Sum

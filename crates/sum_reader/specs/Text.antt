@@ -1,8 +1,8 @@
 -- Which text is the text of which sum. A fact `P ts us` says that the text ts begins so, and that us is left of it.
 use Rattle.std.specs.Prelude.{◌≡◌, ℕ, ◌+◌, ◌-◌, ◌*◌, ◌^◌, ◌≤◌, ℤ, pos, neg_ℤ, Bool, true, false, ◌||◌, ◌&&◌, ◌==◌, nat_le, List, [], ◌∷◌, ◌++◌, length, codes}
 use Rattle.std.specs.List.{AllByRecursion}
-use Rattle.core_reader.specs.declared.sum.Sum.{Sum}
-use Rattle.core_reader.specs.Sums.{int_of, plus_of}
+use Rattle.sum_reader.specs.declared.sum.Sum.{Sum}
+use Rattle.sum_reader.specs.Sums.{int_of, plus_of}
 
 -- white space: the code points 9 to 13, and 32
 abbrev pub is_space : ℕ → Bool

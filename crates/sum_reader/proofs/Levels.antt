@@ -1,12 +1,12 @@
 -- What is counted in a sum, by what the sum is made of.
 use Rattle.std.proofs.Common.{◌≡◌, ℕ, ◌+◌, max, ℤ, ◌+ℤ◌, refl, sym, ◌∙◌}
 use Rattle.std.specs.Int.RustNames.{unsigned_abs}
-use Rattle.core_reader.specs.declared.sum.Sum.{Sum, out-Sum}
-use Rattle.core_reader.specs.declared.sum.Sum.TheOpen.{Sum-F}
-use Rattle.core_reader.specs.declared.sum.Sum.TheFolds.{fold_out-Sum, fold-roll-Sum, fold-Sum, map-Sum}
-use Rattle.core_reader.specs.declared.sum.Sum.TheViews.{the_lemmas}
-use Rattle.core_reader.specs.declared.sum.Sum.TheVariants.{Int, Plus, rolls-Int, rolls-Plus}
-use Rattle.core_reader.specs.Sums.{int_of, plus_of, value, value_at, level_value, count_of, count_at, level_count, levels_of, levels_at, level_levels, farthest, farthest_at, level_farthest}
+use Rattle.sum_reader.specs.declared.sum.Sum.{Sum, out-Sum}
+use Rattle.sum_reader.specs.declared.sum.Sum.TheOpen.{Sum-F}
+use Rattle.sum_reader.specs.declared.sum.Sum.TheFolds.{fold_out-Sum, fold-roll-Sum, fold-Sum, map-Sum}
+use Rattle.sum_reader.specs.declared.sum.Sum.TheViews.{the_lemmas}
+use Rattle.sum_reader.specs.declared.sum.Sum.TheVariants.{Int, Plus, rolls-Int, rolls-Plus}
+use Rattle.sum_reader.specs.Sums.{int_of, plus_of, value, value_at, level_value, count_of, count_at, level_count, levels_of, levels_at, level_levels, farthest, farthest_at, level_farthest}
 
 value_level : (l : Sum-F Sum) → value_at (map-Sum Sum ℤ (fold-Sum ℤ value_at) l) ≡ level_value l
 unfolding value

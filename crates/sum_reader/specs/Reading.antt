@@ -2,11 +2,11 @@
 use Rattle.std.specs.Prelude.{◌≡◌, ℕ, zero, suc, ◌+◌, ◌-◌, ◌*◌, ◌==◌, nat_eq, nat_lt, ℤ, pos, neg_ℤ, Bool, false, ◌||◌, if◌then◌else◌, List, [], ◌∷◌, length, drop, take, codes, Option, Some, None, Result, Ok, Err}
 use Rattle.std.specs.List.{prefix_len}
 use Rattle.std.specs.Cmp.Lexicographic.{pointwise}
-use Rattle.core_reader.specs.declared.sum.Sum.{Sum}
-use Rattle.core_reader.specs.declared.sum.SumRefusal.{SumRefusal}
-use Rattle.core_reader.specs.declared.sum.SumRefusal.TheVariants.{NotYet, Memory}
-use Rattle.core_reader.specs.Sums.{int_of, plus_of}
-use Rattle.core_reader.specs.Text.{is_space, is_digit, is_name_byte, is_word_byte, Token, Word, Sign, Name, exporting, no_attributes, before_sum, before_parts}
+use Rattle.sum_reader.specs.declared.sum.Sum.{Sum}
+use Rattle.sum_reader.specs.declared.sum.SumRefusal.{SumRefusal}
+use Rattle.sum_reader.specs.declared.sum.SumRefusal.TheVariants.{NotYet, Memory}
+use Rattle.sum_reader.specs.Sums.{int_of, plus_of}
+use Rattle.sum_reader.specs.Text.{is_space, is_digit, is_name_byte, is_word_byte, Token, Word, Sign, Name, exporting, no_attributes, before_sum, before_parts}
 
 infixl 10 ◌>>=◌
 abbrev pub ◌>>=◌ : {X Y : Type 0} → Option X → (X → Option Y) → Option Y

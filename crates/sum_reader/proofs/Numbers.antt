@@ -5,8 +5,8 @@ use Rattle.std.specs.List.{prefix_len}
 use Rattle.std.proofs.Math.Seq.{drop-cons}
 use Rattle.std.proofs.lemmas.Bool.Decides.{nat_tests}
 use Rattle.std.proofs.lemmas.List.Folds.{length-prefix_len}
-use Rattle.core_reader.specs.Text.{is_digit, AreAll}
-use Rattle.core_reader.specs.Reading.{number_from}
+use Rattle.sum_reader.specs.Text.{is_digit, AreAll}
+use Rattle.sum_reader.specs.Reading.{number_from}
 
 -- the number only grows
 grows : (ds : List ℕ) (n : ℕ) → n ≤ number_from n ds

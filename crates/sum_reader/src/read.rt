@@ -2,10 +2,10 @@
 
 ghost use Rattle.std.specs.Prelude.{◌≡◌, ℕ, ◌+◌, ◌-◌, ◌≤◌, ◌<◌, length, IfOk};
 ghost use Rattle.std.specs.Option.{option_copied};
-ghost use Rattle.core_reader.specs.declared.sum.Sum.{Sum as ASum};
-ghost use Rattle.core_reader.specs.Sums.{HasSmallIntegers, count_of, levels_of};
-ghost use Rattle.core_reader.specs.Text.{IsSumText, exporting, no_attributes, before_sum, before_parts, greatest_level};
-ghost use Rattle.core_reader.specs.Reading.{after_all, body_at, parts_at, sum_at, is_end, read, Gives};
+ghost use Rattle.sum_reader.specs.declared.sum.Sum.{Sum as ASum};
+ghost use Rattle.sum_reader.specs.Sums.{HasSmallIntegers, count_of, levels_of};
+ghost use Rattle.sum_reader.specs.Text.{IsSumText, exporting, no_attributes, before_sum, before_parts, greatest_level};
+ghost use Rattle.sum_reader.specs.Reading.{after_all, body_at, parts_at, sum_at, is_end, read, Gives};
 
 use crate::sum::{Sum, SumRefusal};
 use crate::token::{after_name, after_sign, after_spaces, after_word, integer};

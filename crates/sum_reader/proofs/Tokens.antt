@@ -8,9 +8,9 @@ use Rattle.std.proofs.lemmas.Option.{cond_some}
 use Rattle.std.proofs.lemmas.Slice.Eq.{bytes_eq-Decides}
 use Rattle.std.proofs.lemmas.Bool.Decides.{nat_tests}
 use Rattle.std.proofs.lemmas.List.Folds.{length-prefix_len}
-use Rattle.core_reader.specs.Text.{is_space, is_name_byte, is_word_byte, AreAll, BeginsWithout, Spaced, here, space, Token, Word, Sign, Name, IsName, Spells, word, sign, name, Begins, BeginsAll}
-use Rattle.core_reader.specs.Reading.{◌>>=◌, skipped, begins, after_bytes, after_sign, unless_longer, after_word, after_quoted, after_name, after, after_all}
-use Rattle.core_reader.proofs.Numbers.{front_all}
+use Rattle.sum_reader.specs.Text.{is_space, is_name_byte, is_word_byte, AreAll, BeginsWithout, Spaced, here, space, Token, Word, Sign, Name, IsName, Spells, word, sign, name, Begins, BeginsAll}
+use Rattle.sum_reader.specs.Reading.{◌>>=◌, skipped, begins, after_bytes, after_sign, unless_longer, after_word, after_quoted, after_name, after, after_all}
+use Rattle.sum_reader.proofs.Numbers.{front_all}
 
 pub bind_some : {X Y : Type 0} (r : Option X) (f : X → Option Y) (y : Y) → (r >>= f) ≡ Some y → (x : X) × (r ≡ Some x) × (f x ≡ Some y)
 bind_some (Some x) f y h = (x, refl, h)

@@ -1,8 +1,8 @@
 use Rattle.std.proofs.Common.{◌≡◌, ◌+◌, refl}
-use Rattle.core_reader.specs.declared.read.TheConstants.{MOST_LEVELS}
-use Rattle.core_reader.specs.Text.{greatest_level}
-use Rattle.core_reader.proofs.Answers.{sum, only, not_yet, small, few, shallow}
-use Rattle.core_reader.proofs.read.read_sum.Goals as goal
+use Rattle.sum_reader.specs.declared.read.TheConstants.{MOST_LEVELS}
+use Rattle.sum_reader.specs.Text.{greatest_level}
+use Rattle.sum_reader.proofs.Answers.{sum, only, not_yet, small, few, shallow}
+use Rattle.sum_reader.proofs.read.read_sum.Goals as goal
 
 pub returns : goal.returns
 returns c =

@@ -1,12 +1,12 @@
 -- The reader's sums agree with what a text begins with.
 use Rattle.std.proofs.Common.{◌≡◌, ℕ, zero, suc, ◌+◌, ◌-◌, ◌≤◌, ◌<◌, ℤ, List, ◌++◌, Option, Some, None, codes, refl, ap, ◌∙◌, subst, arith}
 use Rattle.std.proofs.lemmas.Option.{some_pair_parts}
-use Rattle.core_reader.specs.declared.sum.Sum.{Sum}
-use Rattle.core_reader.specs.Sums.{int_of, plus_of}
-use Rattle.core_reader.specs.Text.{Spaced, Token, Word, Sign, Name, Spells, word, sign, name, Begins, BeginsAll, before_parts, greatest_level, BeginsSum, integer, call}
-use Rattle.core_reader.specs.Reading.{◌>>=◌, after_sign, after_all, digits_at, signed_at, integer_at, Found, closed, second_at, first_at, parts_at, integer_or, sum_at}
-use Rattle.core_reader.proofs.Tokens.{bind_some, bound, skipped_at, found, there, all_found, all_there, AllShow}
-use Rattle.core_reader.proofs.Integers.{integer_found, integer_there}
+use Rattle.sum_reader.specs.declared.sum.Sum.{Sum}
+use Rattle.sum_reader.specs.Sums.{int_of, plus_of}
+use Rattle.sum_reader.specs.Text.{Spaced, Token, Word, Sign, Name, Spells, word, sign, name, Begins, BeginsAll, before_parts, greatest_level, BeginsSum, integer, call}
+use Rattle.sum_reader.specs.Reading.{◌>>=◌, after_sign, after_all, digits_at, signed_at, integer_at, Found, closed, second_at, first_at, parts_at, integer_or, sum_at}
+use Rattle.sum_reader.proofs.Tokens.{bind_some, bound, skipped_at, found, there, all_found, all_there, AllShow}
+use Rattle.sum_reader.proofs.Integers.{integer_found, integer_there}
 
 abbrev pub some_sum : Sum → List ℕ → Found
 some_sum e us = Some (e, us)

@@ -1,8 +1,8 @@
 //! Sums, and why a text is none.
 
 ghost use Rattle.std.specs.Prelude.{◌*◌, ◌+◌, ◌<◌, ◌≤◌};
-ghost use Rattle.core_reader.specs.declared.sum.Sum.{Sum as ASum};
-ghost use Rattle.core_reader.specs.Sums.{count_of, value, HasSmallIntegers, IsWithin};
+ghost use Rattle.sum_reader.specs.declared.sum.Sum.{Sum as ASum};
+ghost use Rattle.sum_reader.specs.Sums.{count_of, value, HasSmallIntegers, IsWithin};
 
 use sqlite_items::Boxed;
 use std::alloc::AllocError;
@@ -26,7 +26,7 @@ pub enum SumRefusal {
 }
 
 impl From<AllocError> for SumRefusal {
-    ghost use Rattle.core_reader.specs.declared.sum.SumRefusal.TheVariants.{Memory};
+    ghost use Rattle.sum_reader.specs.declared.sum.SumRefusal.TheVariants.{Memory};
     ghost use Rattle.std.specs.Prelude.{◌≡◌};
 
     ghost from_gives = { λ _ refusal. refusal ≡ Memory };

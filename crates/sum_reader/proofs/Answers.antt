@@ -1,13 +1,13 @@
 -- What the reader answers.
 use Rattle.std.proofs.Common.{◌≡◌, ℕ, ◌+◌, ◌≤◌, ◌<◌, List, Some, None, Result, Ok, Err, IfOk, sym, ◌∙◌}
-use Rattle.core_reader.specs.declared.sum.Sum.{Sum}
-use Rattle.core_reader.specs.declared.sum.SumRefusal.{SumRefusal}
-use Rattle.core_reader.specs.declared.sum.SumRefusal.TheVariants.{NotYet, Memory}
-use Rattle.core_reader.specs.Sums.{count_of, levels_of, HasSmallIntegers}
-use Rattle.core_reader.specs.Text.{greatest_level, IsSumText}
-use Rattle.core_reader.specs.Reading.{read, Gives}
-use Rattle.core_reader.proofs.Texts.{text_found, text_there}
-use Rattle.core_reader.proofs.Bounds as bounds
+use Rattle.sum_reader.specs.declared.sum.Sum.{Sum}
+use Rattle.sum_reader.specs.declared.sum.SumRefusal.{SumRefusal}
+use Rattle.sum_reader.specs.declared.sum.SumRefusal.TheVariants.{NotYet, Memory}
+use Rattle.sum_reader.specs.Sums.{count_of, levels_of, HasSmallIntegers}
+use Rattle.sum_reader.specs.Text.{greatest_level, IsSumText}
+use Rattle.sum_reader.specs.Reading.{read, Gives}
+use Rattle.sum_reader.proofs.Texts.{text_found, text_there}
+use Rattle.sum_reader.proofs.Bounds as bounds
 
 some_same : (e f : Sum) → Some e ≡ Some f → e ≡ f
 some_same e f h = cc

@@ -1,5 +1,5 @@
 use Rattle.std.proofs.Common.{◌+◌, ◌*◌}
-use Rattle.core_reader.proofs.read.+sum.Given as goal
+use Rattle.sum_reader.proofs.read.+sum.Given as goal
 
 abbrev pub decreases-call_at : goal.decreases-call_at
 decreases-call_at l = 2 * l.levels + 1

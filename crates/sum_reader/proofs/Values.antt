@@ -2,11 +2,11 @@
 use Rattle.std.proofs.Common.{ℕ, ◌+◌, ◌*◌, ◌≤◌, ℤ, pos, negsuc, ◌+ℤ◌, ap, sym, subst, subst₂, arith}
 use Rattle.std.specs.Int.RustNames.{unsigned_abs}
 use Rattle.std.proofs.lemmas.Int.{ints}
-use Rattle.core_reader.specs.declared.sum.Sum.{Sum, roll-Sum}
-use Rattle.core_reader.specs.declared.sum.Sum.TheOpen.{Sum-F}
-use Rattle.core_reader.specs.declared.sum.Sum.TheFolds.{ind-Sum, map-Sum}
-use Rattle.core_reader.specs.Sums.{int_of, plus_of, value, count_of, HasSmallIntegers, IsWithin}
-use Rattle.core_reader.proofs.Levels.{value-int, value-plus, count-int, count-plus, farthest-int, farthest-plus}
+use Rattle.sum_reader.specs.declared.sum.Sum.{Sum, roll-Sum}
+use Rattle.sum_reader.specs.declared.sum.Sum.TheOpen.{Sum-F}
+use Rattle.sum_reader.specs.declared.sum.Sum.TheFolds.{ind-Sum, map-Sum}
+use Rattle.sum_reader.specs.Sums.{int_of, plus_of, value, count_of, HasSmallIntegers, IsWithin}
+use Rattle.sum_reader.proofs.Levels.{value-int, value-plus, count-int, count-plus, farthest-int, farthest-plus}
 
 pub abs_within : (z : ℤ) (n : ℕ) → unsigned_abs z ≤ n → IsWithin n z
 abs_within (pos m) n h = (omega (arith, ints), omega (arith, ints))

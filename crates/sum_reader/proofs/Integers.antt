@@ -7,10 +7,10 @@ use Rattle.std.proofs.Math.Seq.{drop-append_seam, take-append_seam}
 use Rattle.std.proofs.lemmas.Option.{some_pair_parts}
 use Rattle.std.proofs.lemmas.Bool.Decides.{nat_tests}
 use Rattle.std.proofs.lemmas.List.Folds.{length-prefix_len}
-use Rattle.core_reader.specs.Text.{is_space, is_digit, BeginsWithout, Spaced, number_of, AreDigits, SpellsInteger, unsigned, plus, minus, BeginsInteger}
-use Rattle.core_reader.specs.Reading.{skipped, begins, number_from, digits_at, as_positive, as_negative, signed_at, integer_at}
-use Rattle.core_reader.proofs.Numbers.{front_all, small_number}
-use Rattle.core_reader.proofs.Tokens.{bind_some, begins-without, without-begins, spaced, skipped_at, prefix_at, rest_without, front_and_rest, count_within, within_count}
+use Rattle.sum_reader.specs.Text.{is_space, is_digit, BeginsWithout, Spaced, number_of, AreDigits, SpellsInteger, unsigned, plus, minus, BeginsInteger}
+use Rattle.sum_reader.specs.Reading.{skipped, begins, number_from, digits_at, as_positive, as_negative, signed_at, integer_at}
+use Rattle.sum_reader.proofs.Numbers.{front_all, small_number}
+use Rattle.sum_reader.proofs.Tokens.{bind_some, begins-without, without-begins, spaced, skipped_at, prefix_at, rest_without, front_and_rest, count_within, within_count}
 
 -- a digit more is ten times the number
 one_digit : (n e p r : ℕ) → (n * 10 + e) * p + r ≡ n * (p * 10) + (e * p + r)
