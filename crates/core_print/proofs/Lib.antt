@@ -1,2 +1,3 @@
 mod PrintTable
 pub mod Printing
+mod Attributes
