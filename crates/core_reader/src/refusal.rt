@@ -1,0 +1,54 @@
+// Why a text isn't read.
+
+use hipe_terms::Place;
+use std::alloc::AllocError;
+
+/// Why a text isn't read as a module.
+#[derive(Clone, Copy, Debug, PartialEq, Eq)]
+pub enum ReadRefusal {
+    /// There is no token at a place, or a byte that isn't UTF-8.
+    Token { at: Place },
+    /// An integer isn't within the range.
+    WideInteger { at: Place },
+    /// An atom has more than 255 code points.
+    LongAtom { at: Place },
+    /// No module goes on with a token, or ends here.
+    Syntax { at: Place },
+    /// A part of level 1,001 begins with a token.
+    TooDeep { at: Place },
+    /// A token stands for what Core Erlang has and the profile hasn't.
+    NotInProfile { at: Place },
+    /// Memory ran out.
+    Memory,
+}
+
+/// Why a text isn't read as a call.
+#[derive(Clone, Copy, Debug, PartialEq, Eq)]
+pub enum CallRefusal {
+    /// The text isn't a call from this place on.
+    Refused { at: Place },
+    /// Memory ran out.
+    Memory,
+}
+
+impl From<AllocError> for ReadRefusal {
+    ghost use Rattle.core_reader.specs.declared.refusal.ReadRefusal.TheVariants.{Memory};
+    ghost use Rattle.std.specs.Prelude.{◌≡◌};
+
+    ghost from_gives = { λ _ refusal. refusal ≡ Memory };
+
+    fn from(_error: AllocError) -> ReadRefusal {
+        ReadRefusal::Memory
+    }
+}
+
+impl From<AllocError> for CallRefusal {
+    ghost use Rattle.core_reader.specs.declared.refusal.CallRefusal.TheVariants.{Memory};
+    ghost use Rattle.std.specs.Prelude.{◌≡◌};
+
+    ghost from_gives = { λ _ refusal. refusal ≡ Memory };
+
+    fn from(_error: AllocError) -> CallRefusal {
+        CallRefusal::Memory
+    }
+}
