@@ -43,6 +43,10 @@ character_step s p = character_step_by (character_length s) (slice_index s 0) p
 abbrev pub no_place : Place → Option Place
 no_place p = None
 
+-- the place of the first byte that isn't UTF-8 of a text that goes on at a place
+unfoldable pub ill_formed_from : Place → List ℕ → Option Place
+ill_formed_from p text = walk character_step no_place text 0 p
+
 -- the place of the first byte that isn't UTF-8
 unfoldable pub ill_formed : List ℕ → Option Place
 ill_formed text = walk character_step no_place text 0 start
