@@ -1,5 +1,5 @@
 -- The first byte of a text that isn't UTF-8.
-use Rattle.std.proofs.Common.{◌≡◌, ℕ, zero, suc, ◌-◌, ◌<◌, Bool, true, false, ◌&&◌, List, [], ◌∷◌, ◌++◌, length, drop, Option, Some, None, IfSome, refl, ap, sym, ◌∙◌, subst, append_assoc, arith}
+use Rattle.std.proofs.Common.{◌≡◌, ℕ, zero, suc, ◌-◌, ◌<◌, Bool, true, false, ◌&&◌, List, [], ◌∷◌, ◌++◌, length, drop, Option, Some, None, refl, ap, sym, ◌∙◌, subst, append_assoc, arith}
 use Rattle.std.specs.Prelude.{slice_index, encode_utf8_all}
 use Rattle.std.specs.Char.{encode_utf8}
 use Rattle.std.specs.Str.{IsUtf8, all_scalars}
@@ -43,11 +43,11 @@ pub stays : (cs : List ℕ) (p : Place) → AreAll is_continuation cs → place_
 stays [] p all = refl
 stays (c ∷ cs) p all = ap (λ q. place_after q cs) (stay c p all.0) ∙ stays cs p all.1
 
-moved_over : (v : ℕ) (cs us : List ℕ) (p : Place) → IsCharacter v cs → moved p (slice_index (cs ++ us) 0) ≡ place_after p cs
+pub moved_over : (v : ℕ) (cs us : List ℕ) (p : Place) → IsCharacter v cs → moved p (slice_index (cs ++ us) 0) ≡ place_after p cs
 moved_over v [] us p is = let h : None ≡ point v 0 = decodes v [] us is in absurd (cc)
 moved_over v (c ∷ cs) us p is = sym (stays cs (moved p c) (continues_all v c cs is))
 
-places : (cs us : List ℕ) (p : Place) → place_after p (cs ++ us) ≡ place_after (place_after p cs) us
+pub places : (cs us : List ℕ) (p : Place) → place_after p (cs ++ us) ≡ place_after (place_after p cs) us
 places [] us p = refl
 places (c ∷ cs) us p = places cs us (moved p c)
 
@@ -159,7 +159,7 @@ pub from_start : (s : List ℕ) → ill_formed_from start s ≡ ill_formed s
 unfolding ill_formed_from ill_formed
 from_start s = refl
 
-nothing_ill_formed : (p : Place) → ill_formed_from p [] ≡ None
+pub nothing_ill_formed : (p : Place) → ill_formed_from p [] ≡ None
 unfolding ill_formed_from
 nothing_ill_formed p = refl
 
@@ -185,8 +185,3 @@ ill_formed_read s at h =
 -- and where characters were gone over and none follows, the first byte that isn't UTF-8 stands there
 pub stuck_at : (cs us : List ℕ) (p : Place) → IsUtf8 cs → 0 < length us → character_length us ≡ None → ill_formed_from p (cs ++ us) ≡ Some (place_after p cs)
 stuck_at cs us p u some is = utf8_passed cs us p u ∙ stuck_by us (place_after p cs) some is
-
--- what a call answers
-pub first_found : (s : List ℕ) (o : Option Place) → o ≡ ill_formed s → IfSome o (λ at. IsIllFormed s at)
-first_found s None is = tt
-first_found s (Some at) is = ill_formed_at s at (sym is)

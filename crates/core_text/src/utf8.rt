@@ -2,11 +2,10 @@
 
 ghost use Rattle.std.specs.Prelude.{◌≡◌, ℕ, ◌+◌, ◌^◌, ◌<◌, ◌≤◌, true, length, IfSome, IfNone};
 ghost use Rattle.std.specs.Str.{IsUtf8};
-ghost use Rattle.core_text.specs.Characters.{IsIllFormed};
-ghost use Rattle.core_text.specs.Utf8.{sequence_of, goes_on, character_length, ill_formed_from, ill_formed};
+ghost use Rattle.core_text.specs.Utf8.{sequence_of, goes_on, character_length, ill_formed_from};
 
 use crate::bytes::{continuations, rest_from};
-use crate::place::{moved, start};
+use crate::place::moved;
 use hipe_terms::Place;
 
 /// What follows a first byte: a second byte within limits, and more bytes from 0x80 to 0xBF.
@@ -95,15 +94,4 @@ pub fn ill_formed_from(at: Place, text: &[u8]) -> Option<Place>
         }
     }
     None
-}
-
-/// The place of the first byte that isn't UTF-8.
-pub fn ill_formed(text: &[u8]) -> Option<Place>
-    requires { length text.now < 2 ^ 32 }
-    ensures place { result ≡ ill_formed text.now }
-    // The text is UTF-8, or this is the place of the first byte that isn't.
-    ensures utf8 { IfNone result (IsUtf8 text.now) }
-    ensures first { IfSome result (λ at. IsIllFormed text.now at) }
-{
-    ill_formed_from(start(), text)
 }
