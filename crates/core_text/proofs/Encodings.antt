@@ -170,7 +170,7 @@ pub encode_one : (v : ℕ) → v < 128 → encode_utf8 v ≡ v ∷ []
 unfolding encode_utf8
 encode_one v h = simp (lt_true v 128 h)
 
-one_is : (c : ℕ) → c < 128 → IsCharacter c (c ∷ [])
+pub one_is : (c : ℕ) → c < 128 → IsCharacter c (c ∷ [])
 one_is c h = (scalar_low c (omega (arith, h)), encode_one c h)
 
 -- the code points by the bytes' bits

@@ -9,7 +9,7 @@ use Rattle.hipe_terms.specs.declared.place.Place.{Place}
 use Rattle.core_text.specs.Bytes.{is_continuation}
 use Rattle.core_text.specs.Places.{start, moved, place_after}
 use Rattle.core_text.specs.Walks.{walk, go_on}
-use Rattle.core_text.specs.Utf8.{character_length, character_step_by, character_step, no_place, ill_formed}
+use Rattle.core_text.specs.Utf8.{character_length, character_step_by, character_step, no_place, ill_formed_from, ill_formed}
 use Rattle.core_text.specs.declared.code_point.CodePoint.{CodePoint}
 use Rattle.core_text.specs.CodePoints.{point, decoded}
 use Rattle.core_text.specs.Fronts.{AreAll, BeginsWith, BeginsWithNone}
@@ -43,11 +43,11 @@ pub stays : (cs : List ℕ) (p : Place) → AreAll is_continuation cs → place_
 stays [] p all = refl
 stays (c ∷ cs) p all = ap (λ q. place_after q cs) (stay c p all.0) ∙ stays cs p all.1
 
-moved_over : (v : ℕ) (cs us : List ℕ) (p : Place) → IsCharacter v cs → moved p (slice_index (cs ++ us) 0) ≡ place_after p cs
+pub moved_over : (v : ℕ) (cs us : List ℕ) (p : Place) → IsCharacter v cs → moved p (slice_index (cs ++ us) 0) ≡ place_after p cs
 moved_over v [] us p is = let h : None ≡ point v 0 = decodes v [] us is in absurd (cc)
 moved_over v (c ∷ cs) us p is = sym (stays cs (moved p c) (continues_all v c cs is))
 
-places : (cs us : List ℕ) (p : Place) → place_after p (cs ++ us) ≡ place_after (place_after p cs) us
+pub places : (cs us : List ℕ) (p : Place) → place_after p (cs ++ us) ≡ place_after (place_after p cs) us
 places [] us p = refl
 places (c ∷ cs) us p = places cs us (moved p c)
 
@@ -119,6 +119,10 @@ whole : (s : List ℕ) → Gives s start (ill_formed s)
 unfolding ill_formed
 whole s = gives s 0 start
 
+pub well_formed_from : (s : List ℕ) (p : Place) → ill_formed_from p s ≡ None → IsUtf8 s
+unfolding ill_formed_from
+well_formed_from s p is = subst (Gives s p) is (gives s 0 p)
+
 pub well_formed : (s : List ℕ) → ill_formed s ≡ None → IsUtf8 s
 well_formed s is = subst (Gives s start) is (whole s)
 
@@ -146,12 +150,21 @@ overs (v ∷ vs) us p good =
     ap (λ t. walk character_step no_place t 0 p) (append_assoc cs ds us) ∙ over v cs (ds ++ us) p (h.0, refl) ∙ overs vs us (place_after p cs) h.1
     ∙ ap (λ q. walk character_step no_place us 0 q) (sym (places cs ds p))
 
-over_utf8 : (s us : List ℕ) → IsUtf8 s → walk character_step no_place (s ++ us) 0 start ≡ walk character_step no_place us 0 (place_after start s)
-over_utf8 s us u = subst (λ s. walk character_step no_place (s ++ us) 0 start ≡ walk character_step no_place us 0 (place_after start s)) u.1.1 (overs u.0 us start u.1.0)
+-- UTF-8 at the front is gone over
+pub utf8_passed : (cs us : List ℕ) (p : Place) → IsUtf8 cs → ill_formed_from p (cs ++ us) ≡ ill_formed_from (place_after p cs) us
+unfolding ill_formed_from
+utf8_passed cs us p u = subst (λ s. walk character_step no_place (s ++ us) 0 p ≡ walk character_step no_place us 0 (place_after p s)) u.1.1 (overs u.0 us p u.1.0)
+
+pub from_start : (s : List ℕ) → ill_formed_from start s ≡ ill_formed s
+unfolding ill_formed_from ill_formed
+from_start s = refl
+
+pub nothing_ill_formed : (p : Place) → ill_formed_from p [] ≡ None
+unfolding ill_formed_from
+nothing_ill_formed p = refl
 
 pub utf8_read : (s : List ℕ) → IsUtf8 s → ill_formed s ≡ None
-unfolding ill_formed
-utf8_read s u = ap (λ t. walk character_step no_place t 0 start) (sym (append-nil s)) ∙ over_utf8 s [] u
+utf8_read s u = sym (from_start s) ∙ ap (ill_formed_from start) (sym (append-nil s)) ∙ utf8_passed s [] start u ∙ nothing_ill_formed (place_after start s)
 
 -- where no character begins, none is taken
 not_taken : (s : List ℕ) (n : Option ℕ) → character_length s ≡ n → 0 < length s → ((v : ℕ) → BeginsWithNone (λ cs us. IsCharacter v cs) s) → n ≡ None
@@ -159,11 +172,16 @@ not_taken [] n is some h = absurd (omega (arith, some))
 not_taken s None is some h = refl
 not_taken (c ∷ t) (Some n) is some h = let b = decoded_there c t n is in absurd (h _ b.front b.rest b.is b.holds)
 
-stuck_at : (s : List ℕ) (p : Place) → 0 < length s → ((v : ℕ) → BeginsWithNone (λ cs us. IsCharacter v cs) s) → walk character_step no_place s 0 p ≡ Some p
-stuck_at [] p some h = absurd (omega (arith, some))
-stuck_at (c ∷ t) p some h = ap (λ f. go_on (character_step_by f c p) (λ q. walk character_step no_place t (q.0 - 1) q.1)) (not_taken (c ∷ t) (character_length (c ∷ t)) refl some h)
+stuck_by : (s : List ℕ) (p : Place) → 0 < length s → character_length s ≡ None → ill_formed_from p s ≡ Some p
+unfolding ill_formed_from
+stuck_by [] p some is = absurd (omega (arith, some))
+stuck_by (c ∷ t) p some is = ap (λ f. go_on (character_step_by f c p) (λ q. walk character_step no_place t (q.0 - 1) q.1)) is
 
 pub ill_formed_read : (s : List ℕ) (at : Place) → IsIllFormed s at → ill_formed s ≡ Some at
-unfolding ill_formed
 ill_formed_read s at h =
-    ap (λ t. walk character_step no_place t 0 start) h.is ∙ over_utf8 h.good h.bad h.utf8 ∙ stuck_at h.bad (place_after start h.good) h.some h.no_character ∙ ap Some (sym h.place)
+    sym (from_start s) ∙ ap (ill_formed_from start) h.is ∙ utf8_passed h.good h.bad start h.utf8
+    ∙ stuck_by h.bad (place_after start h.good) h.some (not_taken h.bad (character_length h.bad) refl h.some h.no_character) ∙ ap Some (sym h.place)
+
+-- and where characters were gone over and none follows, the first byte that isn't UTF-8 stands there
+pub stuck_at : (cs us : List ℕ) (p : Place) → IsUtf8 cs → 0 < length us → character_length us ≡ None → ill_formed_from p (cs ++ us) ≡ Some (place_after p cs)
+stuck_at cs us p u some is = utf8_passed cs us p u ∙ stuck_by us (place_after p cs) some is

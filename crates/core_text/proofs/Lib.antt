@@ -10,3 +10,5 @@ pub mod IllFormed
 pub mod Scalars
 pub mod Fewer
 pub mod Columns
+pub mod Plain
+pub mod Passing

@@ -1,10 +1,11 @@
 -- UTF-8: the first byte of a text that isn't.
-use Rattle.std.specs.Prelude.{ℕ, ◌+◌, Bool, false, ◌&&◌, ◌==◌, nat_le, if◌then◌else◌, List, [], ◌∷◌, slice_index, Option, Some, None, Result, Ok, Err}
+use Rattle.std.specs.Prelude.{◌≡◌, ℕ, ◌≤◌, length, take, ◌+◌, Bool, false, ◌&&◌, ◌==◌, nat_le, if◌then◌else◌, List, [], ◌∷◌, slice_index, Option, Some, None, Result, Ok, Err}
 use Rattle.std.specs.List.{prefix_len}
+use Rattle.std.specs.Str.{IsUtf8}
 use Rattle.hipe_terms.specs.declared.place.Place.{Place}
 use Rattle.core_text.specs.declared.utf8.Sequence.{Sequence}
 use Rattle.core_text.specs.Bytes.{is_from, is_continuation}
-use Rattle.core_text.specs.Places.{start, moved}
+use Rattle.core_text.specs.Places.{start, moved, place_after}
 use Rattle.core_text.specs.Walks.{walk}
 
 -- what follows a first byte, by table 3-7 of the Unicode Standard: a second byte within limits, and more bytes from 128 to 191
@@ -43,6 +44,16 @@ character_step s p = character_step_by (character_length s) (slice_index s 0) p
 abbrev pub no_place : Place → Option Place
 no_place p = None
 
+-- the place of the first byte that isn't UTF-8 of a text that goes on at a place
+unfoldable pub ill_formed_from : Place → List ℕ → Option Place
+ill_formed_from p text = walk character_step no_place text 0 p
+
 -- the place of the first byte that isn't UTF-8
 unfoldable pub ill_formed : List ℕ → Option Place
 ill_formed text = walk character_step no_place text 0 start
+
+-- n bytes at the front of a text that goes on at the place p are UTF-8, and q is the place behind them
+pub record ArePassed (s : List ℕ) (p : Place) (n : ℕ) (q : Place) : Type 0 where
+  pub within : n ≤ length s
+  pub utf8 : IsUtf8 (take n s)
+  pub place : q ≡ place_after p (take n s)

@@ -2,7 +2,7 @@
 
 ghost use Rattle.std.specs.Prelude.{◌≡◌, ℕ, ◌+◌, ◌-◌, ◌*◌, ◌^◌, ◌<◌, ◌≤◌, length, drop, take, IfSome, IfNone};
 ghost use Rattle.std.specs.List.{prefix_len};
-ghost use Rattle.core_text.specs.Bytes.{is_space, is_digit, is_octal, is_hex, is_lower, is_upper, is_word_byte, is_continuation, is_before_line_end, begins, digit_value, number_from};
+ghost use Rattle.core_text.specs.Bytes.{is_space, is_digit, is_octal, is_hex, is_lower, is_upper, is_word_byte, is_continuation, begins, digit_value, number_from};
 
 /// The base of decimal digits.
 pub const DECIMAL: u64 = 10;
@@ -117,14 +117,6 @@ pub fn continuations(text: &[u8]) -> usize
     ensures within { result ≤ length text.now }
 {
     text.iter().take_while(|b| is_continuation(**b)).count()
-}
-
-/// How many bytes stand before the end of the line.
-pub fn bytes_before_line_end(text: &[u8]) -> usize
-    ensures count { result ≡ prefix_len is_before_line_end text.now }
-    ensures within { result ≤ length text.now }
-{
-    text.iter().take_while(|b| **b != b'\n').count()
 }
 
 /// Whether a decimal digit stands at the front.

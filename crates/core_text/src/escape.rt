@@ -31,7 +31,9 @@ fn simple_escape(b: u8) -> Option<u32>
         b's' => Some(32),
         b't' => Some(9),
         b'v' => Some(11),
-        b'"' | b'\'' | b'\\' => Some(u32::from(b)),
+        b'"' => Some(34),
+        b'\'' => Some(39),
+        b'\\' => Some(92),
         _ => None,
     }
 }

@@ -1,7 +1,7 @@
 // What a text of Core Erlang is made of below its tokens: bytes, places, characters and escapes.
 //
-// Each function says what stands at the front of a text: how many bytes it has, and what it means. `ill_formed` finds the first
-// byte that isn't UTF-8. What characters, escapes, quotes and numbers are spelled like is in specs/Characters.antt and
+// Each function says what stands at the front of a text: how many bytes it has, and what it means. `ill_formed_from` finds the
+// first byte that isn't UTF-8. What characters, escapes, quotes and numbers are spelled like is in specs/Characters.antt and
 // specs/Numbers.antt, and laws.rt ties the functions to it.
 //
 // Files:

@@ -2,11 +2,10 @@
 
 ghost use Rattle.std.specs.Prelude.{◌≡◌, ℕ, ◌+◌, ◌^◌, ◌<◌, ◌≤◌, true, length, IfSome, IfNone};
 ghost use Rattle.std.specs.Str.{IsUtf8};
-ghost use Rattle.core_text.specs.Characters.{IsIllFormed};
-ghost use Rattle.core_text.specs.Utf8.{sequence_of, goes_on, character_length, ill_formed};
+ghost use Rattle.core_text.specs.Utf8.{sequence_of, goes_on, character_length, ill_formed_from};
 
 use crate::bytes::{continuations, rest_from};
-use crate::place::{moved, start};
+use crate::place::moved;
 use hipe_terms::Place;
 
 /// What follows a first byte: a second byte within limits, and more bytes from 0x80 to 0xBF.
@@ -72,16 +71,17 @@ pub fn character_length(text: &[u8]) -> Option<usize>
     }
 }
 
-/// The place of the first byte that isn't UTF-8.
-#[tactic(auto, using(crate::proofs::Walks::walks), unfolding(crate::specs::Utf8::ill_formed))]
-pub fn ill_formed(text: &[u8]) -> Option<Place>
-    requires { length text.now < 2 ^ 32 }
-    ensures place { result ≡ ill_formed text.now }
-    // The text is UTF-8, or this is the place of the first byte that isn't.
+/// The place of the first byte that isn't UTF-8 of a text that goes on at a place.
+#[tactic(auto, using(crate::proofs::Walks::walks), unfolding(crate::specs::Utf8::ill_formed_from))]
+pub fn ill_formed_from(at: Place, text: &[u8]) -> Option<Place>
+    requires short { length text.now < 2 ^ 32 }
+    requires few_lines { at.line < 2 ^ 33 }
+    requires few_columns { at.col < 2 ^ 33 }
+    ensures place { result ≡ ill_formed_from at text.now }
+    // It is `None` exactly where the text is UTF-8.
     ensures utf8 { IfNone result (IsUtf8 text.now) }
-    ensures first { IfSome result (λ at. IsIllFormed text.now at) }
 {
-    let mut at = start();
+    let mut at = at;
     let mut offset = 0;
     while offset < text.len() {
         let rest = rest_from(text, offset);

@@ -45,7 +45,7 @@ long_read : (vs cs us : List ℕ) → IsAtom vs cs us → ATOM_LIMIT < length vs
 long_read vs cs us is long =
     let h : nat_lt ATOM_LIMIT (length vs) ≡ true = grind (arith, nat_tests) in atom_read vs cs us is ∙ ap (λ b. cond b (Err LongAtom) (lexeme Sort.Atom (length cs))) h
 
-positive : (n : ℕ) → 0 < n → nat_eq n 0 ≡ false
+pub positive : (n : ℕ) → 0 < n → nat_eq n 0 ≡ false
 positive n h = grind (arith, nat_tests)
 
 zeroth : (n : ℕ) → n ≡ 0 → nat_eq n 0 ≡ true
@@ -217,7 +217,7 @@ blank_step cs us b is =
     let t = token_step s b (lexeme_at s) in
     ap (λ n. cond (nat_eq n 0) t (Ok (n, passed s n b))) (blank_read cs us is) ∙ ap (λ x. cond x t (Ok (length cs, passed s (length cs) b))) (positive (length cs) (blank_some cs us is))
 
-no_blank_step : (s : List ℕ) (b : Scan) (f : Found) → blank_length s ≡ 0 → lexeme_at s ≡ f → scan_step s b ≡ token_step s b f
+pub no_blank_step : (s : List ℕ) (b : Scan) (f : Found) → blank_length s ≡ 0 → lexeme_at s ≡ f → scan_step s b ≡ token_step s b f
 unfolding scan_step
 no_blank_step s b f none is =
     ap (λ x. cond x (token_step s b (lexeme_at s)) (Ok (blank_length s, passed s (blank_length s) b))) (zeroth (blank_length s) none) ∙ ap (λ f. token_step s b f) is
@@ -333,10 +333,6 @@ unique = record {
 }
 
 -- what a call answers
-pub answered : (s : List ℕ) (r : Result (List Token) TokenFault) → None ≡ ill_formed s → Answers (scanned s) r → Answers (read s) r
-unfolding read
-answered s r none h = subst (λ o. Answers (unless_ill_formed o (scanned s)) r) none h
-
 pub tokens_answered : (s : List ℕ) (r : Result (List Token) TokenFault) → Answers (read s) r → IfOk r (λ ts. HasTokens s 0 start ts)
 tokens_answered s (Ok ts) h = (tokens_read s ts h).1
 tokens_answered s (Err f) h = tt

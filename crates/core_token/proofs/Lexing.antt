@@ -141,7 +141,7 @@ among_by : (P : List ℕ → Type 0) (cs w : List ℕ) (b r : Bool) → pointwis
 among_by P cs w true r is h rest some = subst P (sym (same_text cs w (sym is))) h
 among_by P cs w false r is h rest some = rest some
 
-among : (P : List ℕ → Type 0) (cs : List ℕ) (ws : List (List ℕ)) → AllByRecursion P ws → is_among cs ws ≡ true → P cs
+pub among : (P : List ℕ → Type 0) (cs : List ℕ) (ws : List (List ℕ)) → AllByRecursion P ws → is_among cs ws ≡ true → P cs
 among P cs [] all some = absurd (cc)
 among P cs (w ∷ ws) all some = among_by P cs w (pointwise nat_eq cs w) (is_among cs ws) refl all.0 (among P cs ws all.1) some
 
@@ -156,11 +156,11 @@ pub name_of : (cs : List ℕ) → is_word cs ≡ true → is_name cs ≡ true
 unfolding is_word
 name_of cs is = among IsName cs words all_names is
 
-both : (a b : Bool) → (a && b) ≡ true → (a ≡ true) × (b ≡ true)
+pub both : (a b : Bool) → (a && b) ≡ true → (a ≡ true) × (b ≡ true)
 both true b h = (refl, h)
 both false b h = absurd (cc)
 
-equal : (m n : ℕ) → nat_eq m n ≡ true → m ≡ n
+pub equal : (m n : ℕ) → nat_eq m n ≡ true → m ≡ n
 equal m n h = grind (arith, nat_tests)
 
 name_count : (t us : List ℕ) → prefix_len is_word_byte t ≡ length t → begins is_word_byte us ≡ false → prefix_len is_word_byte (t ++ us) ≡ length t
@@ -208,7 +208,7 @@ byte_by : (P : ℕ → Type 0) (c d : ℕ) (b r : Bool) → nat_eq c d ≡ b →
 byte_by P c d true r is h rest some = subst P (sym (equal c d is)) h
 byte_by P c d false r is h rest some = rest some
 
-byte_among : (P : ℕ → Type 0) (c : ℕ) (ds : List ℕ) → AllByRecursion P ds → is_byte_among c ds ≡ true → P c
+pub byte_among : (P : ℕ → Type 0) (c : ℕ) (ds : List ℕ) → AllByRecursion P ds → is_byte_among c ds ≡ true → P c
 byte_among P c [] all some = absurd (cc)
 byte_among P c (d ∷ ds) all some = byte_by P c d (nat_eq c d) (is_byte_among c ds) refl all.0 (byte_among P c ds all.1) some
 

@@ -1,6 +1,7 @@
 pub mod Blanks
 pub mod Cuts
 pub mod Lexing
+pub mod Passing
 pub mod Sizes
 pub mod Spelled
 pub mod Steps

@@ -98,6 +98,10 @@ is_short_sign c = is_byte_among c (codes "(){}[]<>,=/:|#~")
 abbrev pub word_at : List ℕ → Found
 word_at s = let n = prefix_len is_word_byte (drop 1 s) + 1 in if is_word (take n s) then lexeme Word n else Err Token
 
+-- how many bytes the sign has that begins with the byte c before s; 0 where none does
+abbrev pub sign_length : ℕ → List ℕ → ℕ
+sign_length c s = if is_short_sign c then 1 else (if c == 45 then (if begins (λ d. d == 62 || d == 124) s then 2 else 0) else 0)
+
 -- what begins with `-` but is no number: `->` and `-|`
 abbrev pub sign_at : ℕ → List ℕ → Found
 sign_at c s =

@@ -1,5 +1,5 @@
 -- The tokens of a text, or its first fault.
-use Rattle.std.specs.Prelude.{◌≡◌, ℕ, ◌+◌, ◌==◌, if◌then◌else◌, List, [], ◌∷◌, ◌++◌, take, Option, Some, None, Result, Ok, Err}
+use Rattle.std.specs.Prelude.{◌≡◌, ◌⊎◌, ℕ, ◌+◌, ◌==◌, if◌then◌else◌, List, [], ◌∷◌, ◌++◌, take, Option, Some, None, Result, Ok, Err}
 use Rattle.std.specs.List.{prefix_len}
 use Rattle.hipe_terms.specs.declared.place.Place.{Place}
 use Rattle.core_token.specs.declared.token.Token.{Token}
@@ -11,7 +11,7 @@ use Rattle.core_token.specs.declared.scan.Scan.{Scan}
 use Rattle.core_text.specs.Bytes.{is_space, is_before_line_end}
 use Rattle.core_text.specs.Places.{start, place_after}
 use Rattle.core_text.specs.Walks.{walk}
-use Rattle.core_text.specs.Utf8.{ill_formed}
+use Rattle.core_text.specs.Utf8.{ill_formed_from, ill_formed, ArePassed}
 use Rattle.core_token.specs.Lexemes.{lexeme_at}
 
 -- a text's tokens, or its first fault and the place of it
@@ -66,8 +66,17 @@ Answers r (Ok ts) = r ≡ Ok ts
 Answers r (Err (Refused kind p)) = r ≡ Err (kind, p)
 Answers r (Err Memory) = Unit {0}
 
+-- the fault of a text that goes on with no token, by the place of its first byte that isn't UTF-8
+abbrev pub refusal : Option Place → TokenKind → Place → TokenFault
+refusal (Some first) kind p = Refused TokenKind.Token first
+refusal None kind p = Refused kind p
+
+-- a step meets a byte that isn't UTF-8, or no token, and then none follows
+abbrev pub IsStopped : List ℕ → Scan → TokenKind → Place → Type 0
+IsStopped s b kind p = (kind ≡ TokenKind.Token) × (ill_formed_from b.at s ≡ Some p) ⊎ (ill_formed_from b.at s ≡ None) × (scan_step s b ≡ Err (Err (kind, p)))
+
 -- what a step answers
-abbrev pub AnswersStep : Result (ℕ × Scan) Reading → Scan → Result ℕ TokenFault → Type 0
-AnswersStep r b (Ok n) = r ≡ Ok (n, b)
-AnswersStep r b (Err (Refused kind p)) = r ≡ Err (Err (kind, p))
-AnswersStep r b (Err Memory) = Unit {0}
+abbrev pub AnswersStep : List ℕ → Scan → Scan → Result ℕ TokenFault → Type 0
+AnswersStep s b u (Ok n) = (scan_step s b ≡ Ok (n, u)) × ArePassed s b.at n u.at
+AnswersStep s b u (Err (Refused kind p)) = IsStopped s b kind p
+AnswersStep s b u (Err Memory) = Unit {0}

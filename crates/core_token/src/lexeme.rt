@@ -1,10 +1,9 @@
 // The token at the front of a text.
 
-ghost use Rattle.std.specs.Prelude.{◌≡◌, ℕ, ◌+◌, ◌<◌, ◌≤◌, ◌^◌, nat_eq, length, IfOk};
-ghost use Rattle.std.specs.Cmp.Lexicographic.{pointwise};
+ghost use Rattle.std.specs.Prelude.{◌≡◌, ℕ, ◌+◌, ◌<◌, ◌≤◌, ◌^◌, length, map, IfOk};
 ghost use Rattle.core_text.specs.Quotes.{quoted_at};
 ghost use Rattle.core_text.specs.CodePoints.{code_point_at};
-ghost use Rattle.core_token.specs.Lexemes.{atom_of, text_of, character_by, is_word, is_short_sign, word_at, sign_at, unquoted_at, lexeme_at};
+ghost use Rattle.core_token.specs.Lexemes.{atom_of, text_of, character_by, is_among, is_word, sign_length, word_at, sign_at, unquoted_at, lexeme_at};
 
 use crate::number::number_at;
 use crate::token::{Sort, TokenKind};
@@ -77,59 +76,71 @@ fn character_at(text: &[u8]) -> Result<Lexeme, TokenKind>
     }
 }
 
-fn is(bytes: &[u8], word: &[u8]) -> bool
-    ensures { result ≡ pointwise nat_eq bytes.now word.now }
+// The words of the language.
+const WORDS: [&[u8]; 19] = [
+    b"after",
+    b"apply",
+    b"attributes",
+    b"call",
+    b"case",
+    b"catch",
+    b"do",
+    b"end",
+    b"fun",
+    b"in",
+    b"let",
+    b"letrec",
+    b"module",
+    b"of",
+    b"primop",
+    b"receive",
+    b"timeout",
+    b"try",
+    b"when",
+];
+
+fn is_among(bytes: &[u8], words: &[&[u8]]) -> bool
+    ensures { result ≡ is_among bytes.now (map (λ w. w.now) words.now) }
 {
-    bytes == word
+    for word in words {
+        if bytes == *word {
+            return true;
+        }
+    }
+    false
 }
 
-// The words of the language.
 #[tactic(auto, unfolding(crate::specs::Lexemes::is_word))]
 fn is_word(bytes: &[u8]) -> bool
     ensures { result ≡ is_word bytes.now }
 {
-    is(bytes, b"after")
-        || is(bytes, b"apply")
-        || is(bytes, b"attributes")
-        || is(bytes, b"call")
-        || is(bytes, b"case")
-        || is(bytes, b"catch")
-        || is(bytes, b"do")
-        || is(bytes, b"end")
-        || is(bytes, b"fun")
-        || is(bytes, b"in")
-        || is(bytes, b"let")
-        || is(bytes, b"letrec")
-        || is(bytes, b"module")
-        || is(bytes, b"of")
-        || is(bytes, b"primop")
-        || is(bytes, b"receive")
-        || is(bytes, b"timeout")
-        || is(bytes, b"try")
-        || is(bytes, b"when")
+    is_among(bytes, &WORDS)
 }
 
-// The signs of one byte.
-fn is_short_sign(b: u8) -> bool
-    ensures { result ≡ is_short_sign b }
+// How many bytes the sign has that begins with this byte before the text; 0 where none does.
+fn sign_length(first: u8, text: &[u8]) -> usize
+    ensures { result ≡ sign_length first text.now }
 {
-    matches!(
-        b,
-        b'(' | b')'
-            | b'{'
-            | b'}'
-            | b'['
-            | b']'
-            | b'<'
-            | b'>'
-            | b','
-            | b'='
-            | b'/'
-            | b':'
-            | b'|'
-            | b'#'
-            | b'~'
-    )
+    match (first, text.first()) {
+        (b'(', _) => 1,
+        (b')', _) => 1,
+        (b'{', _) => 1,
+        (b'}', _) => 1,
+        (b'[', _) => 1,
+        (b']', _) => 1,
+        (b'<', _) => 1,
+        (b'>', _) => 1,
+        (b',', _) => 1,
+        (b'=', _) => 1,
+        (b'/', _) => 1,
+        (b':', _) => 1,
+        (b'|', _) => 1,
+        (b'#', _) => 1,
+        (b'~', _) => 1,
+        (b'-', Some(b'>')) => 2,
+        (b'-', Some(b'|')) => 2,
+        _ => 0,
+    }
 }
 
 // A word.
@@ -155,19 +166,14 @@ fn sign_at(first: u8, text: &[u8]) -> Result<Lexeme, TokenKind>
     ensures lexeme { result ≡ sign_at first text.now }
     ensures within { IfOk result (λ l. (0 < l.length) × (l.length ≤ length text.now + 1)) }
 {
-    if is_short_sign(first) {
-        return Ok(Lexeme {
-            sort: Sort::Sign,
-            length: 1,
-        });
+    let length = sign_length(first, text);
+    if length == 0 {
+        return Err(TokenKind::Token);
     }
-    match (first, text.first()) {
-        (b'-', Some(b'>' | b'|')) => Ok(Lexeme {
-            sort: Sort::Sign,
-            length: 2,
-        }),
-        _ => Err(TokenKind::Token),
-    }
+    Ok(Lexeme {
+        sort: Sort::Sign,
+        length,
+    })
 }
 
 // A number, a variable, a word or a sign.

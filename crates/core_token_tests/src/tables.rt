@@ -4,7 +4,7 @@ use core_token::Sort::{Atom, Character, Float, Integer, Sign, Text, Variable, Wo
 use core_token::{Sort, TokenKind};
 
 // Texts and their tokens.
-pub const TOKENS: [(&[u8], &[(Sort, u64, u64, u32, u32)]); 31] = [
+pub const TOKENS: [(&[u8], &[(Sort, u64, u64, u32, u32)]); 32] = [
     (b"", &[]),
     (b" \t\r\n\x0B\x0C% 'x\n", &[]),
     (b"% the last line", &[]),
@@ -171,6 +171,7 @@ pub const TOKENS: [(&[u8], &[(Sort, u64, u64, u32, u32)]); 31] = [
             (Variable, 2, 3, 5, 6),
         ],
     ),
+    (b"%\xC3\xA9'\nX%\xF0\x9F\x98\x80", &[(Variable, 2, 1, 5, 6)]),
     (
         b"'\xEF\xBB\xBF'X",
         &[(Atom, 1, 1, 0, 5), (Variable, 1, 4, 5, 6)],
@@ -178,7 +179,7 @@ pub const TOKENS: [(&[u8], &[(Sort, u64, u64, u32, u32)]); 31] = [
 ];
 
 // Texts and their first faults.
-pub const FAULTS: [(&[u8], TokenKind, u64, u64); 51] = [
+pub const FAULTS: [(&[u8], TokenKind, u64, u64); 55] = [
     (b"inn", TokenKind::Token, 1, 1),
     (b" in_", TokenKind::Token, 1, 2),
     (b"in@", TokenKind::Token, 1, 1),
@@ -230,6 +231,10 @@ pub const FAULTS: [(&[u8], TokenKind, u64, u64); 51] = [
     (b"X\xF4\x90\x80\x80", TokenKind::Token, 1, 2),
     (b"'\xC3\xA9\n\xE2\x82\xAC\x80'", TokenKind::Token, 2, 2),
     (b"% \xFF", TokenKind::Token, 1, 3),
+    (b"%\xC3\xA9\xE2\x82\xACX\xFF", TokenKind::Token, 1, 5),
+    (b"%\xE2\x82\nX", TokenKind::Token, 1, 2),
+    (b"X ;\n'\xC3\xA9' \xFF", TokenKind::Token, 2, 5),
+    (b"576460752303423488\n \xC3", TokenKind::Token, 2, 2),
 ];
 
 // Characters and their code points.
