@@ -1,0 +1,8 @@
+-- Lemmas of printing and reading.
+mod TreeKinds
+mod Fits
+mod Made
+mod Parts
+mod PatternBack
+mod ExpressionBack
+mod Derived

@@ -1,0 +1,4 @@
+// What is printed reads back.
+
+/// Nothing yet.
+pub fn printed_reads_back() {}

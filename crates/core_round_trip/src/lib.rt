@@ -1,0 +1,4 @@
+// Reading what is printed.
+#![tactic(auto)]
+
+pub mod law;
