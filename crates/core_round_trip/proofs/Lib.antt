@@ -6,3 +6,5 @@ mod Parts
 mod PatternBack
 mod ExpressionBack
 mod Derived
+mod ConstantBack
+mod ModuleBack
