@@ -8,3 +8,7 @@ mod ExpressionBack
 mod Derived
 mod ConstantBack
 mod ModuleBack
+mod TerminalsCopy
+mod Tokens
+mod Numerals
+mod Names
