@@ -12,3 +12,7 @@ mod TerminalsCopy
 mod Tokens
 mod Numerals
 mod Names
+mod PieceKinds
+mod TermKinds
+mod ConstructKinds
+mod PrintedKinds
