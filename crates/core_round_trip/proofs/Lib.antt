@@ -8,7 +8,6 @@ mod ExpressionBack
 mod Derived
 mod ConstantBack
 mod ModuleBack
-mod TerminalsCopy
 mod Tokens
 mod Numerals
 mod Names
@@ -16,3 +15,5 @@ mod PieceKinds
 mod TermKinds
 mod ConstructKinds
 mod PrintedKinds
+mod GoodTokens
+mod RoundTrip

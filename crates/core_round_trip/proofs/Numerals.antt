@@ -19,7 +19,7 @@ use Rattle.core_token.proofs.Spelled.{most, in_range}
 use Rattle.core_token.proofs.Valued.{integer_there}
 use Rattle.core_round_trip.proofs.Fits.{IsInRange}
 use Rattle.core_round_trip.proofs.TreeKinds.{integer_kind}
-use Rattle.core_round_trip.proofs.TerminalsCopy.{number_of, or_zero, kind_of}
+use Rattle.core_reader.specs.Terminals.{number_of, or_zero, kind_of}
 
 -- ---- what may stand behind a word, a variable or an integer
 

@@ -14,7 +14,7 @@ use Rattle.core_grammar.specs.declared.terminal.Mark.{Mark}
 use Rattle.core_print.specs.Printed.{Piece, spelled, text_of, atom, variable, integer, word, sign, space, line, indentation, name_pieces}
 use Rattle.core_round_trip.proofs.TreeKinds.{integer_kind, name_kinds}
 use Rattle.core_round_trip.proofs.Fits.{IsInRange, IsAtomName, IsVariableName, IsName}
-use Rattle.core_round_trip.proofs.TerminalsCopy.{word_of, sign_of}
+use Rattle.core_reader.specs.Terminals.{word_of, sign_of}
 use Rattle.core_round_trip.proofs.Tokens.{HasKinds, AreAscii, ascii_utf8, after_space, after_line, after_token}
 use Rattle.core_round_trip.proofs.Numerals.{goes_on, IsApart, no_word_byte, integer_spelled, integer_kind_is, integer_utf8}
 use Rattle.core_round_trip.proofs.Names.{atom_spelled, atom_kind_is, atom_utf8}

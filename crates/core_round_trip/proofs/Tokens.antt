@@ -17,7 +17,7 @@ use Rattle.core_grammar.specs.declared.terminal.Terminal.{Terminal}
 use Rattle.core_grammar.specs.Leave.{token}
 use Rattle.core_print.specs.Printed.{indentation}
 use Rattle.core_round_trip.proofs.TreeKinds.{Kinds, nothing, next}
-use Rattle.core_round_trip.proofs.TerminalsCopy.{kind_of, terminal_of, terminals_of}
+use Rattle.core_reader.specs.Terminals.{kind_of, terminal_of, terminals_of}
 
 -- the tokens of a text that goes on so from its byte i, at the place p, and their kinds
 abbrev pub TokensAt : List ℕ → List Kind → List ℕ → ℕ → Place → Type 0

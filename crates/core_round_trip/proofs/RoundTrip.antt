@@ -1,0 +1,39 @@
+-- What is printed reads back.
+use Rattle.std.proofs.Common.{◌≡◌, ℕ, List, [], ◌∷◌, drop, true, refl}
+use Rattle.core_text.specs.Places.{start}
+use Rattle.core_token.specs.declared.token.Token.{Token}
+use Rattle.core_token.specs.Text.{AreTokensOf}
+use Rattle.core_ast.specs.declared.tree.Module.{Module}
+use Rattle.core_ast.specs.Trees.{module_of}
+use Rattle.core_ast.specs.WellFormed.{well_formed_definitions, well_formed_attributes, IsWellFormed}
+use Rattle.hipe_terms.proofs.Parts.{and_second}
+use Rattle.core_grammar.specs.Language.{limit, Derives}
+use Rattle.core_grammar.proofs.WellFormed.{derived_are_well_formed}
+use Rattle.core_print.specs.Printed.{printed}
+use Rattle.core_reader.specs.declared.limit.TheConstants.{LEVEL_LIMIT}
+use Rattle.core_reader.specs.Terminals.{terminals_of}
+use Rattle.core_reader.specs.Language.{Reads}
+use Rattle.core_round_trip.specs.Laws.{ReadsBack, PrintedReadsBack}
+use Rattle.core_round_trip.proofs.Fits.{ModuleFits}
+use Rattle.core_round_trip.proofs.Derived.{module_fits}
+use Rattle.core_round_trip.proofs.ModuleBack.{module_back}
+use Rattle.core_round_trip.proofs.PrintedKinds.{printed_kinds}
+use Rattle.core_round_trip.proofs.GoodTokens.{tokens_good, goods_in_range}
+
+attributes_well_formed : (m : Module) → IsWellFormed (module_of m) → well_formed_attributes m.attributes ≡ true
+attributes_well_formed m h = and_second (well_formed_definitions (module_of m).definitions) (well_formed_attributes m.attributes) h
+
+fits_back : (m : Module) → well_formed_attributes m.attributes ≡ true → ModuleFits LEVEL_LIMIT (module_of m) → ReadsBack (printed (module_of m)) m
+fits_back m good fits =
+    let text = printed (module_of m) in
+    let h = printed_kinds LEVEL_LIMIT (module_of m) fits in
+    let t = h.tokens text 0 start refl in
+    let r = module_back LEVEL_LIMIT (module_of m) (terminals_of text t.0) good fits t.2 in
+    (r.0, (t.0, (h.utf8, t.1), r.1), r.2)
+
+pub reads_back : PrintedReadsBack
+reads_back s m (ts, t, d) =
+    let good = tokens_good s ts t in
+    fits_back m
+    (attributes_well_formed m (derived_are_well_formed (limit LEVEL_LIMIT) (terminals_of s ts) m (goods_in_range (terminals_of s ts) good) d))
+    (module_fits LEVEL_LIMIT m (terminals_of s ts) d good)
