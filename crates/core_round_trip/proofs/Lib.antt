@@ -16,4 +16,4 @@ mod TermKinds
 mod ConstructKinds
 mod PrintedKinds
 mod GoodTokens
-mod RoundTrip
+pub mod RoundTrip

@@ -2,7 +2,8 @@
 
 ghost use Rattle.core_round_trip.specs.Laws.{PrintedReadsBack};
 
-/// The text that a module is printed as, where some text reads as it, reads as a module that differs in places alone.
+/// The text that a module is printed as reads as a module that differs in the places of its parts alone, where some text reads
+/// as the module.
 pub fn printed_reads_back()
     ensures { PrintedReadsBack }
 {}
