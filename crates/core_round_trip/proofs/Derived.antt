@@ -1,5 +1,5 @@
 -- What is derived fits, where the terminals are what tokens can be.
-use Rattle.std.proofs.Common.{◌≡◌, ℕ, pos, ◌+◌, List, [], ◌∷◌, ◌++◌, map, Bool, true, false, refl, ap, sym, ◌∙◌, subst, nat_le, arith}
+use Rattle.std.proofs.Common.{◌≡◌, ℕ, pos, ◌+◌, List, [], ◌∷◌, ◌++◌, map, true, false, refl, ap, sym, ◌∙◌, subst, arith}
 use Rattle.hipe_terms.specs.declared.place.Place.{Place}
 use Rattle.hipe_terms.specs.declared.constant.Constant.{Constant, out-Constant, out-roll-Constant}
 use Rattle.hipe_terms.specs.declared.constant.Constant.TheOpen.{Constant-F}
@@ -23,14 +23,13 @@ use Rattle.core_ast.specs.declared.tree.Node.TheOpen.{Node-F}
 use Rattle.core_ast.specs.Trees as T
 use Rattle.core_ast.specs.WellFormed.{is_list_pattern, is_list}
 use Rattle.core_ast.proofs.Levels.{level_pattern, pattern_is, level, expression_is}
-use Rattle.core_grammar.specs.declared.terminal.Mark.{Mark}
 use Rattle.core_grammar.specs.declared.terminal.Terminal.{Terminal}
-use Rattle.core_grammar.specs.Leave.{Leave, mark, text_level}
-use Rattle.core_grammar.specs.Trees.{constant_of, constant_cells_before, constant_nil, constant_text, constant_character, pattern_at, pattern_cells_before, pattern_nil, pattern_text, pattern_character, expression_at, cells_before, nil_at, text_at, character_at, clause_at, fun_at, definition_at}
+use Rattle.core_grammar.specs.Leave.{Leave, text_level}
+use Rattle.core_grammar.specs.Trees.{constant_of, constant_cells_before, constant_nil, constant_text, constant_character, pattern_at, pattern_cells_before, pattern_nil, pattern_text, pattern_character, expression_at, cells_before, nil_at, text_at, character_at, definition_at}
 use Rattle.core_grammar.specs.Ranges.{code_points_in_range}
 use Rattle.core_grammar.specs.Language.{limit, Derives}
 use Rattle.core_grammar.specs.Grammar as G
-use Rattle.core_round_trip.proofs.Fits.{IsInRange, IsAtomName, IsVariableName, AreGood, IsName, AreVariables, At, TermFits, TermsFit, HasPattern, PatternFits, PatternsFit, HasExpression, HasClause, Fits, AllFit, ClausesFit, DefinitionsFit, ExportsFit, AttributesFit, ModuleFits}
+use Rattle.core_round_trip.proofs.Fits.{IsAtomName, IsVariableName, AreGood, IsName, AreVariables, At, TermFits, TermsFit, HasPattern, PatternFits, PatternsFit, HasExpression, HasClause, Fits, AllFit, ClausesFit, DefinitionsFit, ExportsFit, AttributesFit, ModuleFits}
 use Rattle.core_round_trip.proofs.Made.{pattern_made, plain_patterns, expression_made, plain_expressions, clause_made, fun_made, definition_made, plain_clauses, plain_definitions}
 
 -- a lesser level

@@ -1,6 +1,6 @@
 -- What the grammar asks of a plain tree, where no part has a level above n: levels, names and integers that tokens have, and
 -- lists as they are derived.
-use Rattle.std.specs.Prelude.{◌≡◌, ℕ, ◌+◌, ◌≤◌, ℤ, pos, List, [], ◌∷◌, length, Bool, true, false, ◌||◌, ◌==◌, nat_le}
+use Rattle.std.specs.Prelude.{◌≡◌, ℕ, ◌+◌, ◌≤◌, ℤ, pos, List, [], ◌∷◌, length, true, false, ◌||◌, ◌==◌, nat_le}
 use Rattle.std.specs.Str.{all_scalars}
 use Rattle.hipe_terms.specs.declared.constant.Constant as RustConstant
 use Rattle.hipe_terms.specs.declared.limits.TheConstants.{ATOM_LIMIT}

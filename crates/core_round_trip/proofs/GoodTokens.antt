@@ -1,5 +1,5 @@
 -- The terminals of a text are what tokens can be.
-use Rattle.std.proofs.Common.{◌≡◌, ◌⊎◌, ℕ, ◌+◌, ◌<◌, ◌≤◌, ℤ, pos, nat_abs, Bool, true, false, cond, ◌&&◌, nat_le, List, [], ◌∷◌, ◌++◌, All, Some, refl, ap, sym, ◌∙◌, subst, arith}
+use Rattle.std.proofs.Common.{◌≡◌, ◌⊎◌, ℕ, ◌<◌, ◌≤◌, ℤ, pos, Bool, true, false, cond, ◌&&◌, nat_le, List, [], ◌∷◌, All, refl, ap, sym, ◌∙◌, subst, arith}
 use Rattle.std.specs.Char.{IsScalar}
 use lib.Utf8.{scalar, scalar_cases}
 use Rattle.std.specs.Str.{all_scalars}

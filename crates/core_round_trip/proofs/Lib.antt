@@ -2,12 +2,12 @@
 mod TreeKinds
 mod Fits
 mod Made
-mod Parts
-mod PatternBack
-mod ExpressionBack
+mod Readings
+mod PatternReading
+mod ExpressionReading
 mod Derived
-mod ConstantBack
-mod ModuleBack
+mod ConstantReading
+mod ModuleReading
 mod Tokens
 mod Numerals
 mod Names

@@ -1,5 +1,5 @@
 -- The plain trees of the trees that the productions derive.
-use Rattle.std.proofs.Common.{◌≡◌, ℕ, List, [], ◌∷◌, ◌++◌, map, Bool, true, false, refl, ap, sym, ◌∙◌}
+use Rattle.std.proofs.Common.{◌≡◌, List, map, true, false, refl, ap, sym, ◌∙◌}
 use Rattle.hipe_terms.specs.declared.place.Place.{Place}
 use Rattle.core_ast.specs.declared.pattern.Var.{Var}
 use Rattle.core_ast.specs.declared.pattern.Pattern.{Pattern}
@@ -17,7 +17,6 @@ use Rattle.core_ast.specs.SameTree.{placeless_pattern, placeless}
 use Rattle.core_ast.specs.WellFormed.{is_list_pattern, is_list}
 use Rattle.core_ast.proofs.Levels.{level_pattern, pattern_is, level, expression_is, clause_is, function_is, definition_is}
 use Rattle.core_grammar.specs.Trees.{pattern_at, pattern_cells_before, pattern_cells, expression_at, cells_before, cells, clause_at, fun_at, definition_at}
-use Rattle.core_print.specs.Printed.{is_nil_pattern, is_nil}
 
 -- ---- patterns
 

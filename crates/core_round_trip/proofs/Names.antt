@@ -1,20 +1,20 @@
 -- Printed atoms are spelled as atoms are.
-use Rattle.std.proofs.Common.{◌≡◌, ◌⊎◌, inl, inr, ℕ, zero, suc, ◌+◌, ◌/◌, ◌<◌, ◌≤◌, ◌^◌, ◌||◌, ◌&&◌, ◌==◌, Bool, true, false, cond, nat_eq, nat_lt, nat_le, List, [], ◌∷◌, ◌++◌, length, codes, flat_map, encode_utf8, Some, refl, ap, sym, ◌∙◌, subst, append_assoc, arith}
+use Rattle.std.proofs.Common.{◌≡◌, ◌⊎◌, inl, inr, ℕ, ◌+◌, ◌/◌, ◌<◌, ◌≤◌, ◌^◌, ◌==◌, Bool, true, false, cond, List, [], ◌∷◌, ◌++◌, codes, flat_map, encode_utf8, Some, refl, ap, sym, ◌∙◌, subst, append_assoc, arith}
 use Rattle.std.specs.Fmt.{digits}
 use Rattle.std.specs.Char.{IsScalar}
 use lib.Utf8.{scalar, scalar_cases}
 use Rattle.std.specs.Str.{IsUtf8, all_scalars}
 use Rattle.std.proofs.lemmas.Bool.Decides.{nat_tests}
 use Rattle.std.proofs.lemmas.Str.{IsUtf8-nil, IsUtf8-append, IsUtf8-encode}
-use Rattle.hipe_terms.specs.Shown.{backslashed, in_hex, is_control, escaped, quoted}
+use Rattle.hipe_terms.specs.Shown.{in_hex, is_control, escaped, quoted}
 use Rattle.hipe_terms.proofs.Parts.{and_first, and_second}
 use Rattle.core_text.specs.Bytes.{is_hex, begins}
 use Rattle.core_text.specs.Escapes.{simple_escape}
 use Rattle.core_text.specs.Fronts.{AreAll}
-use Rattle.core_text.specs.Characters.{IsCharacter, IsEscape, simple, braced, IsCodePoint, itself, escaped as by_escape, IsQuoted, closing, code_point}
+use Rattle.core_text.specs.Characters.{IsEscape, simple, braced, IsCodePoint, itself, escaped as by_escape, IsQuoted, closing, code_point}
 use Rattle.core_text.proofs.Encodings.{sizes, encode_one, encode_two, encode_three, encode_four}
 use Rattle.core_token.specs.declared.token.Sort.{Sort}
-use Rattle.core_token.specs.Spelling.{IsAtom, quoted as quoted_atom, Spells, atom}
+use Rattle.core_token.specs.Spelling.{quoted as quoted_atom, Spells, atom}
 use Rattle.core_token.specs.Values.{code_points_of}
 use Rattle.core_token.proofs.Valued.{atom_there}
 use Rattle.core_grammar.specs.declared.terminal.Kind.{Kind}

@@ -1,20 +1,18 @@
 -- Printed integers are spelled as integers are, and printed code points as atoms want them.
-use Rattle.std.proofs.Common.{◌≡◌, ℕ, zero, suc, ◌+◌, ◌-◌, ◌*◌, ◌<◌, ◌≤◌, ◌^◌, ◌||◌, ◌==◌, ℤ, pos, negsuc, neg_ℤ, nat_abs, Bool, true, false, cond, nat_eq, nat_le, nat_lt, List, [], ◌∷◌, ◌++◌, length, codes, Some, refl, ap, sym, ◌∙◌, subst, arith}
+use Rattle.std.proofs.Common.{◌≡◌, ℕ, suc, ◌+◌, ◌*◌, ◌<◌, ◌^◌, ◌||◌, ◌==◌, ℤ, pos, negsuc, neg_ℤ, Bool, true, false, cond, nat_le, List, [], ◌∷◌, length, refl, ap, sym, ◌∙◌, subst, arith}
 use Rattle.std.specs.Fmt.{digits, decimal, signed_decimal}
 use Rattle.std.specs.Char.{digit_value}
 use Rattle.std.specs.Str.{IsUtf8}
-use Rattle.std.specs.Str.Parse.{IsNumeral, AllDigits, digits_value, digits_value_after}
+use Rattle.std.specs.Str.Parse.{AllDigits, digits_value_after}
 use Rattle.std.proofs.lemmas.Bool.Decides.{nat_tests}
 use Rattle.std.proofs.lemmas.Fmt.{digits_is_IsNumeral, decimal_is_IsNumeral, IsAscii-decimal}
 use Rattle.std.proofs.lemmas.Str.{IsUtf8-from_ascii}
 use Rattle.std.proofs.lemmas.Str.Ascii.{IsAscii-cons}
 use Rattle.core_text.specs.Bytes.{is_digit, is_hex, is_word_byte, begins, digit_value as text_digit, number_from}
-use Rattle.core_text.specs.Fractions.{fraction_length}
 use Rattle.core_text.specs.Fronts.{AreAll, AreDigits, BeginsWithNone}
-use Rattle.core_text.specs.Numbers.{IsFraction, none, minus, signed, IsInteger, integer}
+use Rattle.core_text.specs.Numbers.{IsFraction, none, minus, IsInteger, integer}
 use Rattle.core_text.proofs.Fractions.{no_fraction}
 use Rattle.core_token.specs.declared.token.Sort.{Sort}
-use Rattle.core_token.specs.Values.{integer_of}
 use Rattle.core_token.proofs.Spelled.{most, in_range}
 use Rattle.core_token.proofs.Valued.{integer_there}
 use Rattle.core_round_trip.proofs.Fits.{IsInRange}

@@ -1,42 +1,43 @@
 -- Pieces whose text has tokens of given kinds, whatever text stands behind it.
-use Rattle.std.proofs.Common.{◌≡◌, ℕ, ℤ, pos, ◌+◌, ◌<◌, ◌||◌, ◌==◌, Bool, true, false, List, [], ◌∷◌, ◌++◌, codes, refl, ap, sym, ◌∙◌, subst, append_assoc, append-nil, arith}
+use Rattle.std.proofs.Common.{◌≡◌, ℕ, ℤ, pos, ◌<◌, ◌||◌, ◌==◌, true, List, [], ◌∷◌, ◌++◌, codes, refl, ap, sym, ◌∙◌, subst, append_assoc, append-nil, arith}
 use Rattle.std.specs.Fmt.{signed_decimal}
 use Rattle.hipe_terms.specs.Shown.{quoted, shown}
 use Rattle.hipe_terms.specs.Terms.{Term}
-use Rattle.core_text.specs.Bytes.{is_upper, is_word_byte, begins}
+use Rattle.core_text.specs.Bytes.{is_upper, is_word_byte}
 use Rattle.core_text.specs.Fronts.{AreAll}
 use Rattle.core_token.specs.declared.token.Sort.{Sort}
 use Rattle.core_token.specs.Lexemes.{is_word, is_short_sign}
-use Rattle.core_token.specs.Spelling.{Spells, variable as spelled_variable, integer as spelled_integer, word as spelled_word, sign as spelled_sign, dash_sign}
+use Rattle.core_token.specs.Spelling.{variable as spelled_variable, integer as spelled_integer, word as spelled_word, sign as spelled_sign, dash_sign}
 use Rattle.core_ast.specs.declared.tree.FunName.{FunName}
 use Rattle.core_grammar.specs.declared.terminal.Kind.{Kind}
 use Rattle.core_grammar.specs.declared.terminal.Mark.{Mark}
-use Rattle.core_print.specs.Printed.{Piece, spelled, text_of, atom, variable, integer, word, sign, space, line, indentation, name_pieces}
+use Rattle.core_print.specs.Printed.{Piece, spelled, text_of, atom, variable, integer, word, sign, space, line, name_pieces}
 use Rattle.core_round_trip.proofs.TreeKinds.{integer_kind, name_kinds}
 use Rattle.core_round_trip.proofs.Fits.{IsInRange, IsAtomName, IsVariableName, IsName}
 use Rattle.core_reader.specs.Terminals.{word_of, sign_of}
 use Rattle.core_round_trip.proofs.Tokens.{HasKinds, AreAscii, ascii_utf8, after_space, after_line, after_token}
-use Rattle.core_round_trip.proofs.Numerals.{goes_on, IsApart, no_word_byte, integer_spelled, integer_kind_is, integer_utf8}
+use Rattle.core_round_trip.proofs.Numerals.{IsApart, no_word_byte, integer_spelled, integer_kind_is, integer_utf8}
 use Rattle.core_round_trip.proofs.Names.{atom_spelled, atom_kind_is, atom_utf8}
 
-abbrev pub Kindly : Type 0
-Kindly = List Kind → List Kind
+-- the kinds of some pieces before those of what stands behind them
+abbrev pub Front : Type 0
+Front = List Kind → List Kind
 
--- ---- what the text of pieces is read as
+-- ---- the tokens of pieces
 
--- whatever stands behind it
-pub record Ends (a : List Piece) (f : Kindly) : Type 0 where
+-- The text of these pieces has tokens of these kinds, whatever stands behind it: nothing goes on with its last token.
+pub record Closed (a : List Piece) (f : Front) : Type 0 where
   pub read : (us : List ℕ) (ks : List Kind) → HasKinds us ks → HasKinds (text_of a ++ us) (f ks)
 
--- where nothing behind it would go on with its last token
-pub record Reads (a : List Piece) (f : Kindly) : Type 0 where
+-- The same where what stands behind it wouldn't go on with a word, a variable or an integer.
+pub record Open (a : List Piece) (f : Front) : Type 0 where
   pub read : (us : List ℕ) (ks : List Kind) → IsApart us → HasKinds us ks → HasKinds (text_of a ++ us) (f ks)
 
--- its first byte goes on with no token before it
+-- Its first byte goes on with no word, variable or integer before it.
 pub record Starts (a : List Piece) : Type 0 where
   pub apart : (us : List ℕ) → IsApart (text_of a ++ us)
 
--- the same, or it is empty
+-- The same, or it is empty.
 pub record Keeps (a : List Piece) : Type 0 where
   pub apart : (us : List ℕ) → IsApart us → IsApart (text_of a ++ us)
 
@@ -48,24 +49,24 @@ module _ {a : List Piece} where
   pub keeps : Starts a → Keeps a
   keeps s = record { apart = λ us h. s.apart us }
 
-module _ {a : List Piece} {f : Kindly} where
-  pub reads : Ends a f → Reads a f
-  reads h = record { read = λ us ks apart k. h.read us ks k }
+module _ {a : List Piece} {f : Front} where
+  pub as_open : Closed a f → Open a f
+  as_open h = record { read = λ us ks apart k. h.read us ks k }
 
-module _ {a b : List Piece} {f g : Kindly} where
-  pub end_end : Ends a f → Ends b g → Ends (a ++ b) (λ ks. f (g ks))
-  end_end h k = record { read = λ us ks u. subst (λ t. HasKinds t (f (g ks))) (sym (text_append a b us)) (h.read (text_of b ++ us) (g ks) (k.read us ks u)) }
+module _ {a b : List Piece} {f g : Front} where
+  pub closed_closed : Closed a f → Closed b g → Closed (a ++ b) (λ ks. f (g ks))
+  closed_closed h k = record { read = λ us ks u. subst (λ t. HasKinds t (f (g ks))) (sym (text_append a b us)) (h.read (text_of b ++ us) (g ks) (k.read us ks u)) }
 
-  pub end_read : Ends a f → Reads b g → Reads (a ++ b) (λ ks. f (g ks))
-  end_read h k = record { read = λ us ks apart u. subst (λ t. HasKinds t (f (g ks))) (sym (text_append a b us)) (h.read (text_of b ++ us) (g ks) (k.read us ks apart u)) }
+  pub closed_open : Closed a f → Open b g → Open (a ++ b) (λ ks. f (g ks))
+  closed_open h k = record { read = λ us ks apart u. subst (λ t. HasKinds t (f (g ks))) (sym (text_append a b us)) (h.read (text_of b ++ us) (g ks) (k.read us ks apart u)) }
 
-  pub read_end : Reads a f → Starts b → Ends b g → Ends (a ++ b) (λ ks. f (g ks))
-  read_end h s k = record { read = λ us ks u. subst (λ t. HasKinds t (f (g ks))) (sym (text_append a b us)) (h.read (text_of b ++ us) (g ks) (s.apart us) (k.read us ks u)) }
+  pub open_closed : Open a f → Starts b → Closed b g → Closed (a ++ b) (λ ks. f (g ks))
+  open_closed h s k = record { read = λ us ks u. subst (λ t. HasKinds t (f (g ks))) (sym (text_append a b us)) (h.read (text_of b ++ us) (g ks) (s.apart us) (k.read us ks u)) }
 
-  pub read_read : Reads a f → Keeps b → Reads b g → Reads (a ++ b) (λ ks. f (g ks))
-  read_read h s k = record { read = λ us ks apart u. subst (λ t. HasKinds t (f (g ks))) (sym (text_append a b us)) (h.read (text_of b ++ us) (g ks) (s.apart us apart) (k.read us ks apart u)) }
+  pub open_open : Open a f → Keeps b → Open b g → Open (a ++ b) (λ ks. f (g ks))
+  open_open h s k = record { read = λ us ks apart u. subst (λ t. HasKinds t (f (g ks))) (sym (text_append a b us)) (h.read (text_of b ++ us) (g ks) (s.apart us apart) (k.read us ks apart u)) }
 
-pub none : Ends [] (λ ks. ks)
+pub none : Closed [] (λ ks. ks)
 none = record { read = λ us ks h. h }
 
 pub none_keeps : Keeps []
@@ -76,13 +77,13 @@ none_keeps = record { apart = λ us h. h }
 alone : (p : Piece) (us : List ℕ) (ks : List Kind) → HasKinds (spelled p ++ us) ks → HasKinds (text_of (p ∷ []) ++ us) ks
 alone p us ks h = subst (λ t. HasKinds (t ++ us) ks) (sym (append-nil (spelled p))) h
 
-pub a_space : Ends space (λ ks. ks)
+pub a_space : Closed space (λ ks. ks)
 a_space = record { read = λ us ks h. after_space us ks h }
 
 pub space_starts : Starts space
 space_starts = record { apart = λ us. refl }
 
-pub a_line : (d : ℕ) → Ends (line d) (λ ks. ks)
+pub a_line : (d : ℕ) → Closed (line d) (λ ks. ks)
 a_line d = record { read = λ us ks h. alone (Piece.Line d) us ks (after_line d us ks h) }
 
 pub line_starts : (d : ℕ) → Starts (line d)
@@ -91,7 +92,7 @@ line_starts d = record { apart = λ us. refl }
 pub atom_read : (a us : List ℕ) (ks : List Kind) → IsAtomName a → HasKinds us ks → HasKinds (quoted a ++ us) (Kind.Atom a ∷ ks)
 atom_read a us ks h k = after_token Sort.Atom (quoted a) us (Kind.Atom a) ks (atom_spelled a us h) (atom_kind_is a h) (atom_utf8 a h) k
 
-pub an_atom : (a : List ℕ) → IsAtomName a → Ends (atom a) (λ ks. Kind.Atom a ∷ ks)
+pub an_atom : (a : List ℕ) → IsAtomName a → Closed (atom a) (λ ks. Kind.Atom a ∷ ks)
 an_atom a h = record { read = λ us ks k. alone (Piece.Atom a) us (Kind.Atom a ∷ ks) (atom_read a us ks h k) }
 
 pub atom_starts : (a : List ℕ) → Starts (atom a)
@@ -100,10 +101,10 @@ atom_starts a = record { apart = λ us. refl }
 pub integer_read : (n : ℤ) (us : List ℕ) (ks : List Kind) → IsInRange n → IsApart us → HasKinds us ks → HasKinds (signed_decimal n ++ us) (integer_kind n ∷ ks)
 integer_read n us ks h apart k = after_token Sort.Integer (signed_decimal n) us (integer_kind n) ks (spelled_integer (integer_spelled n us h apart) h) (integer_kind_is n h) (integer_utf8 n h) k
 
-pub an_integer : (n : ℤ) → IsInRange n → Reads (integer n) (λ ks. integer_kind n ∷ ks)
+pub an_integer : (n : ℤ) → IsInRange n → Open (integer n) (λ ks. integer_kind n ∷ ks)
 an_integer n h = record { read = λ us ks apart k. alone (Piece.Integer n) us (integer_kind n ∷ ks) (integer_read n us ks h apart k) }
 
-pub a_constant_by : (t : Term) (f : Kindly) → ((us : List ℕ) (ks : List Kind) → IsApart us → HasKinds us ks → HasKinds (shown [] t ++ us) (f ks)) → Reads (Piece.Constant t ∷ []) f
+pub a_constant_by : (t : Term) (f : Front) → ((us : List ℕ) (ks : List Kind) → IsApart us → HasKinds us ks → HasKinds (shown [] t ++ us) (f ks)) → Open (Piece.Constant t ∷ []) f
 a_constant_by t f h = record { read = λ us ks apart k. alone (Piece.Constant t) us (f ks) (h us ks apart k) }
 
 -- ---- variables
@@ -123,17 +124,17 @@ variable_read [] us ks h apart k = absurd h
 variable_read (c ∷ cs) us ks h apart k =
     after_token Sort.Variable (c ∷ cs) us (Kind.Variable (c ∷ cs)) ks (spelled_variable h.0 (h.1, no_word_byte us apart)) refl (ascii_utf8 (c ∷ cs) (first_byte_small c h.0, word_bytes_ascii cs h.1)) k
 
-pub a_variable : (x : List ℕ) → IsVariableName x → Reads (variable x) (λ ks. Kind.Variable x ∷ ks)
+pub a_variable : (x : List ℕ) → IsVariableName x → Open (variable x) (λ ks. Kind.Variable x ∷ ks)
 a_variable x h = record { read = λ us ks apart k. alone (Piece.Variable x) us (Kind.Variable x ∷ ks) (variable_read x us ks h apart k) }
 
 -- ---- words
 
 module _ (w : List ℕ) (m : Mark) where
-  a_word : is_word w ≡ true → word_of w ≡ m → AreAscii w → Reads (word w) (λ ks. Kind.Mark m ∷ ks)
+  a_word : is_word w ≡ true → word_of w ≡ m → AreAscii w → Open (word w) (λ ks. Kind.Mark m ∷ ks)
   a_word is kind small = record { read = λ us ks apart k. alone (Piece.Word w) us (Kind.Mark m ∷ ks) (after_token Sort.Word w us (Kind.Mark m) ks (spelled_word is (no_word_byte us apart)) (ap Kind.Mark kind) (ascii_utf8 w small) k) }
 
 abbrev pub IsWordOf : List ℕ → Mark → Type 0
-IsWordOf w m = Reads (word w) (λ ks. Kind.Mark m ∷ ks)
+IsWordOf w m = Open (word w) (λ ks. Kind.Mark m ∷ ks)
 
 pub apply_word : IsWordOf (codes "apply") Mark.Apply
 unfolding word_of is_word
@@ -202,11 +203,11 @@ when_word = a_word (codes "when") Mark.When refl refl (omega arith)
 -- ---- signs
 
 module _ (c : ℕ) (m : Mark) where
-  a_sign : is_short_sign c ≡ true → sign_of (c ∷ []) ≡ m → c < 128 → Ends (sign (c ∷ [])) (λ ks. Kind.Mark m ∷ ks)
+  a_sign : is_short_sign c ≡ true → sign_of (c ∷ []) ≡ m → c < 128 → Closed (sign (c ∷ [])) (λ ks. Kind.Mark m ∷ ks)
   a_sign is kind small = record { read = λ us ks k. after_token Sort.Sign (c ∷ []) us (Kind.Mark m) ks (spelled_sign is) (ap Kind.Mark kind) (ascii_utf8 (c ∷ []) (small, tt)) k }
 
 abbrev pub IsSignOf : List ℕ → Mark → Type 0
-IsSignOf s m = Ends (sign s) (λ ks. Kind.Mark m ∷ ks)
+IsSignOf s m = Closed (sign s) (λ ks. Kind.Mark m ∷ ks)
 
 pub open_round : IsSignOf (codes "(") Mark.OpenRound
 unfolding sign_of
@@ -266,6 +267,6 @@ arrow_sign = record { read = λ us ks k. after_token Sort.Sign (codes "->") us (
 
 -- ---- names of functions
 
-pub a_name : (f : FunName) → IsName f → Reads (name_pieces f) (λ ks. name_kinds f ks)
+pub a_name : (f : FunName) → IsName f → Open (name_pieces f) (λ ks. name_kinds f ks)
 unfolding name_pieces
-a_name f h = end_read (end_end (an_atom f.name h.0) slash) (an_integer (pos f.arity) h.1)
+a_name f h = closed_open (closed_closed (an_atom f.name h.0) slash) (an_integer (pos f.arity) h.1)

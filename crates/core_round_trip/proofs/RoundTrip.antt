@@ -1,5 +1,5 @@
 -- What is printed reads back.
-use Rattle.std.proofs.Common.{◌≡◌, ℕ, List, [], ◌∷◌, drop, true, Result, Ok, Err, IfOk, IfErr, refl, subst}
+use Rattle.std.proofs.Common.{◌≡◌, ℕ, List, true, Result, Ok, Err, IfOk, IfErr, refl, subst}
 use Rattle.core_text.specs.Places.{start}
 use Rattle.core_token.specs.declared.token.Token.{Token}
 use Rattle.core_token.specs.Text.{AreTokensOf}
@@ -14,11 +14,11 @@ use Rattle.core_reader.specs.declared.limit.TheConstants.{LEVEL_LIMIT}
 use Rattle.core_reader.specs.declared.refusal.ReadRefusal.{ReadRefusal}
 use Rattle.core_ast.specs.SameTree.{SameTree}
 use Rattle.core_reader.specs.Terminals.{terminals_of}
-use Rattle.core_reader.specs.Language.{Reads, ReadsNone, Only}
+use Rattle.core_reader.specs.Language.{ReadsNone, Only}
 use Rattle.core_round_trip.specs.Laws.{IsOfText, ReadsBack, PrintedReadsBack}
 use Rattle.core_round_trip.proofs.Fits.{ModuleFits}
 use Rattle.core_round_trip.proofs.Derived.{module_fits}
-use Rattle.core_round_trip.proofs.ModuleBack.{module_back}
+use Rattle.core_round_trip.proofs.ModuleReading.{module_reading}
 use Rattle.core_round_trip.proofs.PrintedKinds.{printed_kinds}
 use Rattle.core_round_trip.proofs.GoodTokens.{tokens_good, goods_in_range}
 
@@ -30,7 +30,7 @@ fits_back m good fits =
     let text = printed (module_of m) in
     let h = printed_kinds LEVEL_LIMIT (module_of m) fits in
     let t = h.tokens text 0 start refl in
-    let r = module_back LEVEL_LIMIT (module_of m) (terminals_of text t.0) good fits t.2 in
+    let r = module_reading LEVEL_LIMIT (module_of m) (terminals_of text t.0) good fits t.2 in
     (r.0, (t.0, (h.utf8, t.1), r.1), r.2)
 
 of_text : (s : List ℕ) (m : Module) (ts : List Token) → AreTokensOf s ts → Derives (limit LEVEL_LIMIT) (terminals_of s ts) m → IsWellFormed (module_of m) × ModuleFits LEVEL_LIMIT (module_of m)

@@ -1,5 +1,5 @@
 -- The text of a constant has the tokens of its kinds.
-use Rattle.std.proofs.Common.{◌≡◌, ℕ, ◌+◌, List, [], ◌∷◌, ◌++◌, codes, refl, ap, sym, ◌∙◌, subst, append_assoc}
+use Rattle.std.proofs.Common.{ℕ, ◌+◌, List, [], ◌∷◌, ◌++◌, refl, sym, subst, append_assoc}
 use Rattle.std.specs.Fmt.{signed_decimal}
 use Rattle.hipe_terms.specs.Terms.{Term, Terms, integer, atom, nil, cons, tuple, fun, none, more}
 use Rattle.hipe_terms.specs.Shown.{quoted, shown, shown_tail, shown_all, shown_more}
@@ -7,10 +7,10 @@ use Rattle.core_grammar.specs.declared.terminal.Kind.{Kind}
 use Rattle.core_grammar.specs.declared.terminal.Mark.{Mark}
 use Rattle.core_print.specs.Printed.{Piece}
 use Rattle.core_round_trip.proofs.TreeKinds.{integer_kind, term_kinds, tail_kinds, terms_kinds, terms_behind}
-use Rattle.core_round_trip.proofs.Fits.{IsInRange, IsAtomName, TermFits, TermsFit}
+use Rattle.core_round_trip.proofs.Fits.{TermFits, TermsFit}
 use Rattle.core_round_trip.proofs.Tokens.{HasKinds}
 use Rattle.core_round_trip.proofs.Numerals.{IsApart}
-use Rattle.core_round_trip.proofs.PieceKinds.{Reads, a_constant_by, integer_read, atom_read, open_brace, close_brace, open_square, close_square, comma, bar}
+use Rattle.core_round_trip.proofs.PieceKinds.{Open, a_constant_by, integer_read, atom_read, open_brace, close_brace, open_square, close_square, comma, bar}
 
 -- three texts one behind the other
 chain : (a b us : List ℕ) (ks : List Kind) → HasKinds (a ++ (b ++ us)) ks → HasKinds ((a ++ b) ++ us) ks
@@ -59,8 +59,8 @@ module _ (n : ℕ) where
         let all = shown_all [] ts in
         bar.read (123 ∷ ((all ++ 125 ∷ []) ++ 93 ∷ []) ++ us) (Kind.Mark Mark.OpenBrace ∷ terms_kinds ts js)
         (open_brace.read (((all ++ 125 ∷ []) ++ 93 ∷ []) ++ us) (terms_kinds ts js)
-         (chain (all ++ 125 ∷ []) (93 ∷ []) us (terms_kinds ts js)
-          (chain all (125 ∷ []) (93 ∷ us) (terms_kinds ts js) (all_read (k + 1) ts (125 ∷ 93 ∷ us) js f.1 refl (close_brace.read (93 ∷ us) (Kind.Mark Mark.CloseSquare ∷ ks) (close_square.read us ks h))))))
+        (chain (all ++ 125 ∷ []) (93 ∷ []) us (terms_kinds ts js)
+        (chain all (125 ∷ []) (93 ∷ us) (terms_kinds ts js) (all_read (k + 1) ts (125 ∷ 93 ∷ us) js f.1 refl (close_brace.read (93 ∷ us) (Kind.Mark Mark.CloseSquare ∷ ks) (close_square.read us ks h))))))
     tail_read k (fun g ts) us ks f h = absurd f
 
     all_read : (k : ℕ) (ts : Terms) (us : List ℕ) (ks : List Kind) → TermsFit n k ts → IsApart us → HasKinds us ks → HasKinds (shown_all [] ts ++ us) (terms_kinds ts ks)
@@ -74,5 +74,5 @@ module _ (n : ℕ) where
         comma.read ((shown [] t ++ shown_more [] ts) ++ us) (term_kinds t (terms_behind ts ks))
         (chain (shown [] t) (shown_more [] ts) us (term_kinds t (terms_behind ts ks)) (term_read k t (shown_more [] ts ++ us) (terms_behind ts ks) f.0 (more_apart ts us apart) (more_read k ts us ks f.1 apart h)))
 
-  pub a_constant : (k : ℕ) (t : Term) → TermFits n k t → Reads (Piece.Constant t ∷ []) (λ ks. term_kinds t ks)
+  pub a_constant : (k : ℕ) (t : Term) → TermFits n k t → Open (Piece.Constant t ∷ []) (λ ks. term_kinds t ks)
   a_constant k t f = a_constant_by t (λ ks. term_kinds t ks) (λ us ks apart h. term_read k t us ks f apart h)

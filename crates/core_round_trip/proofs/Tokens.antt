@@ -1,23 +1,21 @@
 -- Texts that have tokens of given kinds.
-use Rattle.std.proofs.Common.{◌≡◌, ℕ, zero, suc, ◌+◌, ◌-◌, ◌<◌, ◌||◌, ◌==◌, Bool, true, false, List, [], ◌∷◌, ◌++◌, length, take, drop, codes, refl, ap, sym, ◌∙◌, subst, append_assoc, arith}
-use Rattle.std.specs.List.{repeat}
+use Rattle.std.proofs.Common.{◌≡◌, ℕ, zero, suc, ◌+◌, ◌-◌, ◌<◌, true, List, [], ◌∷◌, ◌++◌, length, take, drop, refl, ap, sym, ◌∙◌, subst, arith}
 use Rattle.std.specs.Str.{IsUtf8, IsAscii}
 use Rattle.std.proofs.lemmas.Str.{IsUtf8-nil, IsUtf8-append, IsUtf8-from_ascii}
 use Rattle.std.proofs.lemmas.Str.Ascii.{IsAscii-nil, IsAscii-cons}
 use Rattle.std.proofs.lemmas.List.{take_at, drop_at, drop-drop}
 use Rattle.hipe_terms.specs.declared.place.Place.{Place}
-use Rattle.core_text.specs.Bytes.{is_space, is_word_byte, begins}
+use Rattle.core_text.specs.Bytes.{is_space}
 use Rattle.core_text.specs.Places.{place_after}
 use Rattle.core_token.specs.declared.token.Sort.{Sort}
 use Rattle.core_token.specs.declared.token.Token.{Token}
-use Rattle.core_token.specs.Spelling.{IsBlank, space, Spells}
+use Rattle.core_token.specs.Spelling.{space, Spells}
 use Rattle.core_token.specs.Text.{HasTokens, nothing as no_token, blank, token as first_token, bytes_of}
 use Rattle.core_grammar.specs.declared.terminal.Kind.{Kind}
-use Rattle.core_grammar.specs.declared.terminal.Terminal.{Terminal}
 use Rattle.core_grammar.specs.Leave.{token}
 use Rattle.core_print.specs.Printed.{indentation}
 use Rattle.core_round_trip.proofs.TreeKinds.{Kinds, nothing, next}
-use Rattle.core_reader.specs.Terminals.{kind_of, terminal_of, terminals_of}
+use Rattle.core_reader.specs.Terminals.{kind_of, terminals_of}
 
 -- the tokens of a text that goes on so from its byte i, at the place p, and their kinds
 abbrev pub TokensAt : List ℕ → List Kind → List ℕ → ℕ → Place → Type 0

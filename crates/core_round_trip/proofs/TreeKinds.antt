@@ -169,7 +169,7 @@ module_kinds m =
     ∷ Kind.Atom m.name
     ∷ Kind.Mark Mark.OpenSquare
     ∷ exports_kinds m.exports
-      (Kind.Mark Mark.CloseSquare
-       ∷ Kind.Mark Mark.Attributes
-       ∷ Kind.Mark Mark.OpenSquare
-       ∷ attributes_kinds m.attributes (Kind.Mark Mark.CloseSquare ∷ definitions_kinds m.definitions (Kind.Mark Mark.End ∷ [])))
+    (Kind.Mark Mark.CloseSquare
+    ∷ Kind.Mark Mark.Attributes
+    ∷ Kind.Mark Mark.OpenSquare
+    ∷ attributes_kinds m.attributes (Kind.Mark Mark.CloseSquare ∷ definitions_kinds m.definitions (Kind.Mark Mark.End ∷ [])))
