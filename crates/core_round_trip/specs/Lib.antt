@@ -1,0 +1,2 @@
+-- What contracts say of printing and reading.
+pub mod Laws

@@ -1,0 +1,15 @@
+// Printing a module and reading it again.
+//
+// The text that a module is printed as reads as a module that differs in the places of its parts alone. `specs/Laws` says so of
+// every module that some text reads as.
+//
+// Files:
+//   law.rt        the law, of texts and modules
+//   rereading.rt  the same of the printer and the reader
+#![tactic(auto)]
+
+pub mod law;
+pub mod rereading;
+
+pub use law::printed_reads_back;
+pub use rereading::reread;
