@@ -26,7 +26,7 @@ same_stop : (f g : Fault) (p q : Place) → f ≡ g → p ≡ q → fault_refusa
 same_stop f g p q a b = ap (λ x. fault_refusal x p) a ∙ ap (λ x. fault_refusal g x) b
 
 parts : (f g : Fault) (p q : Place) (a b : Result Module (Fault × Place)) → a ≡ Err (f, p) → b ≡ Err (g, q) → a ≡ b → (f ≡ g) × (p ≡ q)
-parts f g p q a b d e h = let both : (f, p) ≡ (g, q) = cc in (ap (λ x. x.0) both, ap (λ x. x.1) both)
+parts f g p q a b d e h = let both : ◌≡◌ {A = Fault × Place} (f, p) (g, q) = cc in (ap (λ (x : Fault × Place). x.0) both, ap (λ (x : Fault × Place). x.1) both)
 
 pub one_refusal : (s : List ℕ) → ReadsNone s → (a b : ReadRefusal) → IsRefusedAs s a → IsRefusedAs s b → a ≡ b
 one_refusal s none _ _ (no_tokens k p h) (no_tokens l q g) = same_fault k l p q (unique.one_fault s k l p q h g)
