@@ -1,6 +1,8 @@
 // Modules and calls.
 
 ghost use Rattle.std.specs.Prelude.{◌≡◌, ◌<◌, ◌^◌, length, IfOk};
+ghost use Rattle.core_ast.specs.Trees.{module_of as tree_of};
+ghost use Rattle.core_ast.specs.WellFormed.{IsWellFormed};
 ghost use Rattle.core_parser.specs.Machine.{module_start, call_start};
 ghost use Rattle.core_reader.specs.Language.{end_of, token_refusal, fault_refusal, Answers, Only, AnswersCall, OnlyCall};
 ghost use Rattle.core_reader.specs.Reading.{module_of, Found, call_of, FoundCall};
@@ -100,11 +102,13 @@ fn found_module(alloc: Global, text: &[u8]) -> Result<Module, ReadRefusal>
 /// - `Syntax`, `NotInProfile` or `TooDeep` exactly where its tokens are no module, at the first token with which no module of
 ///   levels up to 1,000 goes on. The end of the text counts as a last token.
 /// - `Memory` where memory runs out.
-#[tactic(auto, using(crate::proofs::Answering::answering))]
+#[tactic(auto, using(crate::proofs::Answering::answering, crate::proofs::Ranges::ranges))]
 pub fn read_module(alloc: Global, text: &[u8]) -> Result<Module, ReadRefusal>
     requires short { length text.now < 2 ^ 32 }
     ensures answer { Answers text.now result }
     ensures only { Only text.now result }
+    // What is read is as every call wants modules.
+    ensures well_formed { IfOk result (λ m. IsWellFormed (tree_of m)) }
 {
     found_module(alloc, text)
 }

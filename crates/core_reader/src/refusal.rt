@@ -2,23 +2,31 @@
 
 use hipe_terms::Place;
 use std::alloc::AllocError;
+use thiserror::Error;
 
 /// Why a text isn't read as a module.
-#[derive(Clone, Copy, Debug, PartialEq, Eq)]
+#[derive(Clone, Copy, Debug, PartialEq, Eq, Error)]
 pub enum ReadRefusal {
     /// There is no token at a place, or a byte that isn't UTF-8.
+    #[error("Token")]
     Token { at: Place },
     /// An integer isn't within the range.
+    #[error("WideInteger")]
     WideInteger { at: Place },
     /// An atom has more than 255 code points.
+    #[error("LongAtom")]
     LongAtom { at: Place },
     /// No module goes on with a token, or ends here.
+    #[error("Syntax")]
     Syntax { at: Place },
     /// A part of level 1,001 begins with a token.
+    #[error("TooDeep")]
     TooDeep { at: Place },
     /// A token stands for what Core Erlang has and the profile hasn't.
+    #[error("NotInProfile")]
     NotInProfile { at: Place },
     /// Memory ran out.
+    #[error("Memory")]
     Memory,
 }
 

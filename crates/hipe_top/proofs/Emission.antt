@@ -5,9 +5,9 @@ use Rattle.std.proofs.lemmas.Grind.{flat_map-append}
 use Rattle.amd64_form.specs.declared.inst.Inst.TheVariants.{Push}
 use Rattle.amd64_form.specs.declared.reg.Reg.TheVariants.{Rax}
 use Rattle.amd64_form.specs.Encoding.{encoding}
-use Rattle.sum_reader.specs.declared.sum.Sum.{Sum}
-use Rattle.sum_reader.specs.declared.sum.Sum.TheVariants.{Plus}
-use Rattle.sum_reader.proofs.Levels.{plus_made}
+use Rattle.core_sum.specs.declared.sum.Sum.{Sum}
+use Rattle.core_sum.specs.declared.sum.Sum.TheVariants.{Plus}
+use Rattle.core_sum.proofs.Levels.{plus_made}
 use Rattle.hipe_top.specs.Code.{Code, addition, ending, evaluation, bytes_of, code_for}
 use Rattle.hipe_top.proofs.Levels.{evaluation-plus}
 

@@ -1,11 +1,11 @@
 -- The code of a sum, by what the sum is made of.
 use Rattle.std.proofs.Common.{◌≡◌, ℤ, refl, ◌∙◌}
-use Rattle.sum_reader.specs.declared.sum.Sum.{Sum, out-Sum}
-use Rattle.sum_reader.specs.declared.sum.Sum.TheOpen.{Sum-F}
-use Rattle.sum_reader.specs.declared.sum.Sum.TheFolds.{fold_out-Sum, fold-roll-Sum, fold-Sum, map-Sum}
-use Rattle.sum_reader.specs.declared.sum.Sum.TheViews.{the_lemmas}
-use Rattle.sum_reader.specs.Sums.{int_of, plus_of}
-use Rattle.sum_reader.proofs.Levels.{farthest_is}
+use Rattle.core_sum.specs.declared.sum.Sum.{Sum, out-Sum}
+use Rattle.core_sum.specs.declared.sum.Sum.TheOpen.{Sum-F}
+use Rattle.core_sum.specs.declared.sum.Sum.TheFolds.{fold_out-Sum, fold-roll-Sum, fold-Sum, map-Sum}
+use Rattle.core_sum.specs.declared.sum.Sum.TheViews.{the_lemmas}
+use Rattle.core_sum.specs.Sums.{int_of, plus_of}
+use Rattle.core_sum.proofs.Levels.{farthest_is}
 use Rattle.hipe_top.specs.Code.{Code, evaluation, evaluation_at, level_evaluation}
 
 evaluation_level : (l : Sum-F Sum) → evaluation_at (map-Sum Sum Code (fold-Sum Code evaluation_at) l) ≡ level_evaluation l

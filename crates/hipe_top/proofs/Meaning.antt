@@ -14,11 +14,11 @@ use Rattle.amd64_machine.specs.declared.layout.TheConstants.{CODE_BEGIN, STACK_B
 use Rattle.amd64_machine.specs.Integer.{IsInteger, word_of}
 use Rattle.amd64_machine.specs.Machine.{Over, Returned, start, zeros}
 use Rattle.amd64_machine.proofs.Fetching.{fetches}
-use Rattle.sum_reader.specs.declared.sum.Sum.{Sum, roll-Sum}
-use Rattle.sum_reader.specs.declared.sum.Sum.TheOpen.{Sum-F}
-use Rattle.sum_reader.specs.declared.sum.Sum.TheFolds.{ind-Sum, map-Sum}
-use Rattle.sum_reader.specs.Sums.{int_of, plus_of, value, count_of, HasSmallIntegers}
-use Rattle.sum_reader.proofs.Levels.{value-int, count-int, count-plus, farthest-plus}
+use Rattle.core_sum.specs.declared.sum.Sum.{Sum, roll-Sum}
+use Rattle.core_sum.specs.declared.sum.Sum.TheOpen.{Sum-F}
+use Rattle.core_sum.specs.declared.sum.Sum.TheFolds.{ind-Sum, map-Sum}
+use Rattle.core_sum.specs.Sums.{int_of, plus_of, value, count_of, HasSmallIntegers}
+use Rattle.core_sum.proofs.Levels.{value-int, count-int, count-plus, farthest-plus}
 use Rattle.hipe_top.specs.Code.{Code, addition, evaluation, ending, bytes_of, code_for, EndsWith}
 use Rattle.hipe_top.proofs.Levels.{evaluation-int, evaluation-plus}
 use Rattle.hipe_top.proofs.Simulation.{Has, Within, sum_runs, end_runs, small_value}
@@ -119,10 +119,10 @@ zeros_size : (n : ℕ) → length (zeros n) ≡ n
 unfolding zeros
 zeros_size n = length-replicate n 0
 
-code_size : (e : Sum) → count_of e ≤ 3275 → CODE_BEGIN + length (code_for e) ≤ STACK_BEGIN
+code_size : (e : Sum) → count_of e ≤ 32768 → CODE_BEGIN + length (code_for e) ≤ STACK_BEGIN
 code_size e few = omega (arith, bytes_size (evaluation e ++ ending), length-append (evaluation e) ending, is_short e)
 
-pub means : (e : Sum) → HasSmallIntegers e → count_of e ≤ 3275 → EndsWith (code_for e) (value e)
+pub means : (e : Sum) → HasSmallIntegers e → count_of e ≤ 32768 → EndsWith (code_for e) (value e)
 means e small few =
     let code = code_for e in
     let v = value e in

@@ -8,21 +8,32 @@ use Rattle.hipe_edge.specs.Bytes.{AppendsPrefix, TakesCount}
 use Rattle.hipe_edge.specs.Counts.{Rises}
 use Rattle.hipe_edge.specs.declared.reading.ReadAllFault.{ReadAllFault}
 use Rattle.hipe_edge.specs.declared.reading.ReadAllFault.TheVariants as reads
-use Rattle.sum_reader.specs.declared.sum.Sum.{Sum}
-use Rattle.sum_reader.specs.declared.sum.SumRefusal.{SumRefusal}
-use Rattle.sum_reader.specs.declared.sum.SumRefusal.TheVariants as refusals
-use Rattle.sum_reader.specs.Sums.{value}
-use Rattle.sum_reader.specs.Text.{IsSumText}
+use Rattle.core_ast.specs.declared.tree.Module.{Module}
+use Rattle.core_ast.specs.Trees.{module_of}
+use Rattle.core_ast.specs.Good.{IsGood}
+use Rattle.core_lint.specs.declared.refusal.LintRefusal.{LintRefusal}
+use Rattle.core_lint.specs.Refusals.{IsRefusal}
+use Rattle.core_reader.specs.declared.refusal.ReadRefusal.{ReadRefusal}
+use Rattle.core_reader.specs.Language.{Reads, Answers, Only}
+use Rattle.core_sum.specs.declared.sum.Sum.{Sum}
+use Rattle.core_sum.specs.Sums.{value}
+use Rattle.core_sum.specs.Form.{IsSumModule}
 use Rattle.amd64_machine.specs.declared.result.ResultFault.{ResultFault}
 use Rattle.amd64_machine.specs.declared.result.ResultFault.TheVariants as results
 use Rattle.amd64_machine.specs.Machine.{State, Over, Ending, Returned, start, machine_step, machine_run}
 use Rattle.amd64_machine.specs.Result.{value_line}
 use Rattle.hipe_top.specs.declared.limits.TheConstants.{TEXT_LIMIT}
 use Rattle.hipe_top.specs.declared.stop.Stop.{Stop}
-use Rattle.hipe_top.specs.declared.stop.Stop.TheVariants.{Memory}
+use Rattle.hipe_top.specs.declared.words.Mode.{Mode}
+use Rattle.hipe_top.specs.declared.words.Mode.TheVariants.{Check, Run}
+use Rattle.hipe_top.specs.Answers.{AnswerOf, too_long, not_read, not_good, good, not_exported, not_built, sum}
 use Rattle.hipe_top.specs.Code.{code_for, EndsWithin, EndsWith}
-use Rattle.hipe_top.specs.Outcome.{Stream, stream, HadLeft, WasRead, RanSum, not_written, no_memory, RanText, ran, too_long, no_sum, not_read, out_of_memory}
-use Rattle.hipe_top.specs.Stops.{stop_of_reading, stop_of_refusal, stop_of_result}
+use Rattle.hipe_top.specs.Doing as D
+use Rattle.hipe_top.specs.Doing.{RanSum, returned, WroteOk, wrote, wrote_front, IsStop, IsRunStop}
+use Rattle.hipe_top.specs.Outcome.{Stream, stream, Untouched, HadLeft, WasRead, DidText, did, refused_as, DidSource, did_text, out_of_memory}
+use Rattle.hipe_top.specs.Outcome as O
+use Rattle.hipe_top.specs.Stops.{stop_of_source, stop_of_reading, stop_of_lint, stop_of_result}
+use Rattle.hipe_top.specs.Texts.{IsGoodText}
 
 -- ---- the machine
 
@@ -47,14 +58,14 @@ pub keeps_same : (known : Option (List ℕ)) → Keeps known known
 keeps_same None = tt
 keeps_same (Some xs) = refl
 
-pub sum_without_memory : (e : Sum) (w : Option (List ℕ)) (f : ℕ) → RanSum e (stream w w f f) (Err Memory)
-sum_without_memory e w f = no_memory (keeps_same w)
+pub sum_without_memory : (e : Sum) (w : Option (List ℕ)) (f : ℕ) → RanSum e (stream w w f f) (Err Stop.Memory)
+sum_without_memory e w f = D.no_memory (keeps_same w)
 
 -- what was written of the line where it couldn't be written whole
 pub sum_not_written : (e : Sum) (fault : ResultFault) (w w' : Option (List ℕ)) (f f' : ℕ) → EndsWith (code_for e) (value e) → AppendsPrefix w w' (value_line (value e))
     → (fault ≡ results.WriteFault → Rises f f') → (fault ≡ results.Memory → Keeps w w') → RanSum e (stream w w' f f') (Err (stop_of_result fault))
-sum_not_written e results.WriteFault w w' f f' ends front rises kept = not_written ends (rises refl) front
-sum_not_written e results.Memory w w' f f' ends front rises kept = no_memory (kept refl)
+sum_not_written e results.WriteFault w w' f f' ends front rises kept = D.not_written ends (rises refl) front
+sum_not_written e results.Memory w w' f f' ends front rises kept = D.no_memory (kept refl)
 
 -- ---- the source
 
@@ -82,27 +93,58 @@ read_past (Some xs) (Some ys) f f' taken c size =
     (xs, refl, c ∙ ap (λ b. b ++ ys) (sym all), omega (arith, longer, length-append taken ys))
 
 -- the ends of reading without a text
-pub text_not_read : (T : Type 0) (fault : ReadAllFault) (left left' w : Option (List ℕ)) (f f' g : ℕ)
+pub text_not_read : (T : Type 0) (mode : Mode) (fault : ReadAllFault) (left left' w : Option (List ℕ)) (f f' g : ℕ)
     → TakesCount left left' (λ n. (n ≤ TEXT_LIMIT + 1) × ((n ≡ TEXT_LIMIT + 1) ↔ IsErrOf {T = T} (Err fault) reads.TooLong))
-    → (IsErrOf {T = T} (Err fault) reads.ReadFault → Rises f f') → RanText (stream left left' f f') (stream w w g g) (Err (stop_of_reading fault))
-text_not_read T reads.ReadFault left left' w f f' g taken rises = not_read (rises refl) (keeps_same w)
-text_not_read T reads.TooLong left left' w f f' g taken rises =
+    → (IsErrOf {T = T} (Err fault) reads.ReadFault → Rises f f') → DidSource mode (stream left left' f f') (stream w w g g) (Err (stop_of_source fault))
+text_not_read T mode reads.ReadFault left left' w f f' g taken rises = O.not_read (rises refl) (keeps_same w)
+text_not_read T mode reads.TooLong left left' w f f' g taken rises =
     let past = read_past left left' f f' taken.0 taken.1 (taken.2.1.1 refl) in
-    too_long past.0 past.1 past.2 past.3 (keeps_same w)
-text_not_read T reads.Memory left left' w f f' g taken rises = out_of_memory (keeps_same w)
+    did_text past.0 past.1 past.2 (refused_as Stop.TooLong (too_long past.3) (keeps_same w))
+text_not_read T mode reads.Memory left left' w f f' g taken rises = out_of_memory (keeps_same w)
 
--- the ends of reading a sum without one
-pub sum_not_read : (refusal : SumRefusal) (bytes : List ℕ) (left left' w : Option (List ℕ)) (f f' g : ℕ)
-    → Consumes left left' bytes → IsAtEnd left' → length bytes ≤ TEXT_LIMIT → (IsErrOf {T = Sum} (Err refusal) refusals.NotYet → (e : Sum) → IsSumText bytes e → ⊥)
-    → RanText (stream left left' f f') (stream w w g g) (Err (stop_of_refusal refusal))
-sum_not_read refusals.NotYet bytes left left' w f f' g c end le none =
+-- a text that was answered
+pub text_did : {result : Result (Unit {0}) Stop} (mode : Mode) (out : Stream) (bytes : List ℕ) (left left' : Option (List ℕ)) (f f' : ℕ)
+    → Consumes left left' bytes → IsAtEnd left' → length bytes ≤ TEXT_LIMIT → DidText mode bytes out result → DidSource mode (stream left left' f f') out result
+text_did mode out bytes left left' f f' c end le text =
     let whole = read_whole left left' f f' bytes c end le in
-    no_sum bytes whole.0 whole.1 le (none refl) (keeps_same w)
-sum_not_read refusals.Memory bytes left left' w f f' g c end le none = out_of_memory (keeps_same w)
+    did_text bytes whole.0 whole.1 text
 
--- a text whose sum was run
-pub text_run : {result : Result (Unit {0}) Stop} (e : Sum) (out : Stream) (bytes : List ℕ) (left left' : Option (List ℕ)) (f f' : ℕ)
-    → Consumes left left' bytes → IsAtEnd left' → length bytes ≤ TEXT_LIMIT → IsSumText bytes e → RanSum e out result → RanText (stream left left' f f') out result
-text_run e out bytes left left' f f' c end le text run =
-    let whole = read_whole left left' f f' bytes c end le in
-    ran bytes e whole.0 whole.1 text run
+-- ---- good modules
+
+-- why a text isn't read
+pub stop_of_reader : (bytes : List ℕ) (why : ReadRefusal) → Answers bytes (Err why) → Only bytes (Err why) → IsStop bytes (stop_of_reading why)
+stop_of_reader bytes (ReadRefusal.Token p) is none = D.not_read (ReadRefusal.Token p) none is
+stop_of_reader bytes (ReadRefusal.WideInteger p) is none = D.not_read (ReadRefusal.WideInteger p) none is
+stop_of_reader bytes (ReadRefusal.LongAtom p) is none = D.not_read (ReadRefusal.LongAtom p) none is
+stop_of_reader bytes (ReadRefusal.Syntax p) is none = D.not_read (ReadRefusal.Syntax p) none is
+stop_of_reader bytes (ReadRefusal.TooDeep p) is none = D.not_read (ReadRefusal.TooDeep p) none is
+stop_of_reader bytes (ReadRefusal.NotInProfile p) is none = D.not_read (ReadRefusal.NotInProfile p) none is
+stop_of_reader bytes ReadRefusal.Memory is none = D.out_of_memory
+
+-- why a module isn't good
+pub stop_of_linter : (bytes : List ℕ) (m : Module) (why : LintRefusal) → Reads bytes m → IsRefusal (module_of m) why → IsStop bytes (stop_of_lint why)
+stop_of_linter bytes m (LintRefusal.Broken rule p) reads first = D.not_good m rule p reads first
+stop_of_linter bytes m LintRefusal.Memory reads first = D.out_of_memory
+
+-- a text without a good module
+pub stopped : (mode : Mode) (bytes : List ℕ) (w : Option (List ℕ)) (f : ℕ) (stop : Stop) → length bytes ≤ TEXT_LIMIT → IsStop bytes stop → DidText mode bytes (stream w w f f) (Err stop)
+stopped mode bytes w f _ short (D.not_read why none is) = refused_as (stop_of_reading why) (not_read why short none is) (keeps_same w)
+stopped mode bytes w f _ short (D.not_good m rule p reads first) = refused_as _ (not_good m rule p short reads first) (keeps_same w)
+stopped mode bytes w f _ short D.out_of_memory = O.no_memory (keeps_same w)
+
+-- a good module without a sum
+pub run_stopped : (bytes : List ℕ) (m : Module) (w : Option (List ℕ)) (f : ℕ) (stop : Stop) → IsGoodText bytes m → IsRunStop bytes m stop → DidText Run bytes (stream w w f f) (Err stop)
+run_stopped bytes m w f _ g (D.not_exported p none at) = refused_as _ (not_exported m p g none at) (keeps_same w)
+run_stopped bytes m w f _ g (D.not_built p exported first) = refused_as _ (not_built m p g exported first) (keeps_same w)
+run_stopped bytes m w f _ g D.memory_ran_out = O.no_memory (keeps_same w)
+
+-- a good module whose sum was run
+pub sum_did : {result : Result (Unit {0}) Stop} (bytes : List ℕ) (m : Module) (e : Sum) (out : Stream) → IsGoodText bytes m → IsSumModule (module_of m) e → RanSum e out result → DidText Run bytes out result
+sum_did bytes m e out g is (returned ends gained) = did (value_line (value e)) (sum m e g is ends) gained
+sum_did bytes m e out g is (D.not_written ends faulted front) = O.not_written (value_line (value e)) (sum m e g is ends) faulted front
+sum_did bytes m e out g is (D.no_memory untouched) = O.no_memory untouched
+
+-- a good module of which that was written
+pub check_did : {result : Result (Unit {0}) Stop} (bytes : List ℕ) (m : Module) (out : Stream) → IsGoodText bytes m → WroteOk out result → DidText Check bytes out result
+check_did bytes m out g (wrote gained) = did _ (good m g) gained
+check_did bytes m out g (wrote_front faulted front) = O.not_written _ (good m g) faulted front

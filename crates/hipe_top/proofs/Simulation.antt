@@ -14,12 +14,12 @@ use Rattle.amd64_machine.specs.Integer.{IsInteger, word_of, integer_at}
 use Rattle.amd64_machine.specs.Machine.{Registers, State, On, Over, Returned, put, pushed, popped, returned, act, below, machine_run}
 use Rattle.amd64_machine.specs.Arithmetic.{wrap}
 use Rattle.amd64_machine.specs.Regions.{spot, word_at, stack_with, read_at, written_at, InStack}
-use Rattle.sum_reader.specs.declared.sum.Sum.{Sum, roll-Sum}
-use Rattle.sum_reader.specs.declared.sum.Sum.TheOpen.{Sum-F}
-use Rattle.sum_reader.specs.declared.sum.Sum.TheFolds.{ind-Sum, map-Sum}
-use Rattle.sum_reader.specs.Sums.{int_of, plus_of, value, count_of, HasSmallIntegers, IsWithin}
-use Rattle.sum_reader.proofs.Levels.{value-int, value-plus, count-int, count-plus, farthest-plus}
-use Rattle.sum_reader.proofs.Values.{value_within}
+use Rattle.core_sum.specs.declared.sum.Sum.{Sum, roll-Sum}
+use Rattle.core_sum.specs.declared.sum.Sum.TheOpen.{Sum-F}
+use Rattle.core_sum.specs.declared.sum.Sum.TheFolds.{ind-Sum, map-Sum}
+use Rattle.core_sum.specs.Sums.{int_of, plus_of, value, count_of, HasSmallIntegers, IsWithin}
+use Rattle.core_sum.proofs.Levels.{value-int, value-plus, count-int, count-plus, farthest-plus}
+use Rattle.core_sum.proofs.Values.{value_within}
 use Rattle.hipe_top.specs.Code.{Code, addition, ending, evaluation}
 use Rattle.hipe_top.proofs.Levels.{evaluation-int, evaluation-plus}
 
@@ -69,11 +69,11 @@ some_step (Sum-F.Plus a b) = omega (arith, count-plus a.0 b.0, a.1, b.1)
 pub count_some : (e : Sum) → 1 ≤ count_of e
 count_some = ind-Sum HasSome (λ x y is. subst (λ z. HasSome (roll-Sum z)) is (some_step y))
 
-within_integer : (v : ℤ) (c : ℕ) → c ≤ 3275 → IsWithin (999999 * c) v → IsInteger v
+within_integer : (v : ℤ) (c : ℕ) → c ≤ 32768 → IsWithin (999999 * c) v → IsInteger v
 within_integer (pos n) c few is = omega (arith, ints, is.1)
 within_integer (negsuc n) c few is = omega (arith, ints, is.0)
 
-pub small_value : (e : Sum) → HasSmallIntegers e → count_of e ≤ 3275 → IsInteger (value e)
+pub small_value : (e : Sum) → HasSmallIntegers e → count_of e ≤ 32768 → IsInteger (value e)
 small_value e small few = within_integer (value e) (count_of e) few (value_within e small)
 
 -- ---- the stack
@@ -161,7 +161,7 @@ module _ (code : List ℕ) (short : CODE_BEGIN + length code ≤ STACK_BEGIN) wh
 
     abbrev Claim : Sum → Type 0
     Claim e =
-        (k m n : ℕ) (rest : Code) (at : ℕ) (registers : Registers) (flags : Flags) (stack : List ℕ) → Place e k rest at registers stack → count_of e ≤ 3275 → 5 * count_of e + m ≤ n + 4
+        (k m n : ℕ) (rest : Code) (at : ℕ) (registers : Registers) (flags : Flags) (stack : List ℕ) → Place e k rest at registers stack → count_of e ≤ 32768 → 5 * count_of e + m ≤ n + 4
         → Ready (value e) k m rest stack → Within n (On at registers flags stack)
 
     int_runs : (v : ℤ) → Claim (int_of v)

@@ -1,15 +1,25 @@
 -- What the program answers where memory is found and no read or write fails.
-use Rattle.std.specs.Prelude.{◌≡◌, ℕ, ◌<◌, ◌≤◌, List, [], length}
-use Rattle.sum_reader.specs.declared.sum.Sum.{Sum}
-use Rattle.sum_reader.specs.Sums.{value}
-use Rattle.sum_reader.specs.Text.{IsSumText}
+use Rattle.std.specs.Prelude.{◌≡◌, ℕ, ◌<◌, ◌≤◌, List, [], length, codes}
+use Rattle.hipe_terms.specs.declared.place.Place.{Place}
+use Rattle.core_ast.specs.declared.tree.Module.{Module}
+use Rattle.core_ast.specs.declared.rule.Rule.{Rule}
+use Rattle.core_ast.specs.Trees.{module_of}
+use Rattle.core_ast.specs.Good.{IsFirstBroken}
+use Rattle.core_reader.specs.declared.refusal.ReadRefusal.{ReadRefusal}
+use Rattle.core_reader.specs.Language.{Reads, ReadsNone, IsRefusedAs}
+use Rattle.core_sum.specs.declared.sum.Sum.{Sum}
+use Rattle.core_sum.specs.Sums.{value}
+use Rattle.core_sum.specs.Form.{main, Exports, IsSumModule, IsFirstUnbuilt}
 use Rattle.amd64_machine.specs.Result.{value_line}
 use Rattle.hipe_top.specs.declared.limits.TheConstants.{TEXT_LIMIT}
+use Rattle.hipe_top.specs.declared.stop.Reason.{Reason}
 use Rattle.hipe_top.specs.declared.stop.Stop.{Stop}
-use Rattle.hipe_top.specs.declared.stop.Stop.TheVariants.{Words, TooLong, NotYet}
+use Rattle.hipe_top.specs.declared.words.Mode.{Mode}
+use Rattle.hipe_top.specs.declared.words.Mode.TheVariants.{Check, Run}
 use Rattle.hipe_top.specs.Code.{code_for, EndsWith}
-use Rattle.hipe_top.specs.Stops.{status_of, line_of}
-use Rattle.hipe_top.specs.Command.{IsRun}
+use Rattle.hipe_top.specs.Stops.{status_of, line_of, stop_of_reading}
+use Rattle.hipe_top.specs.Command.{IsCommand, words_of}
+use Rattle.hipe_top.specs.Texts.{IsGoodText, BeginsAt}
 
 -- a status, and the texts on out and err
 pub record Answer : Type 0 where
@@ -23,12 +33,24 @@ refused stop = record { status = status_of stop; out = []; err = line_of stop }
 abbrev pub answered : List ℕ → Answer
 answered line = record { status = 0; out = line; err = [] }
 
+abbrev pub not_yet : Place → Answer
+not_yet p = refused (Stop.Refused Reason.NotYet p)
+
+-- a mode's answer to an input of these bytes
+pub data AnswerOf (bytes : List ℕ) : Mode → Answer → Type 0 where
+  too_long : {mode : Mode} → TEXT_LIMIT < length bytes → AnswerOf bytes mode (refused Stop.TooLong)
+  not_read : {mode : Mode} (why : ReadRefusal) → length bytes ≤ TEXT_LIMIT → ReadsNone bytes → IsRefusedAs bytes why → AnswerOf bytes mode (refused (stop_of_reading why))
+  not_good : {mode : Mode} (m : Module) (rule : Rule) (p : Place) → length bytes ≤ TEXT_LIMIT → Reads bytes m → IsFirstBroken (module_of m) rule p
+      → AnswerOf bytes mode (refused (Stop.Refused (Reason.Broken rule) p))
+  good : (m : Module) → IsGoodText bytes m → AnswerOf bytes Check (answered (codes "ok\n"))
+  not_exported : (m : Module) (p : Place) → IsGoodText bytes m → ¬ Exports (module_of m) main → BeginsAt bytes p → AnswerOf bytes Run (not_yet p)
+  not_built : (m : Module) (p : Place) → IsGoodText bytes m → Exports (module_of m) main → IsFirstUnbuilt (module_of m) p → AnswerOf bytes Run (not_yet p)
+  sum : (m : Module) (e : Sum) → IsGoodText bytes m → IsSumModule (module_of m) e → EndsWith (code_for e) (value e) → AnswerOf bytes Run (answered (value_line (value e)))
+
 -- the answer to these words and an input of these bytes
 pub data Expected (words : List (List ℕ)) (bytes : List ℕ) : Answer → Type 0 where
-  bad_words : ¬ IsRun words → Expected words bytes (refused Words)
-  too_long : IsRun words → TEXT_LIMIT < length bytes → Expected words bytes (refused TooLong)
-  no_sum : IsRun words → length bytes ≤ TEXT_LIMIT → ((e : Sum) → IsSumText bytes e → ⊥) → Expected words bytes (refused NotYet)
-  sum : (e : Sum) → IsRun words → IsSumText bytes e → EndsWith (code_for e) (value e) → Expected words bytes (answered (value_line (value e)))
+  bad_words : ¬ IsCommand words → Expected words bytes (refused Stop.Words)
+  of_mode : {answer : Answer} (mode : Mode) → words ≡ words_of mode → AnswerOf bytes mode answer → Expected words bytes answer
 
 -- words and bytes have one answer
 abbrev pub HaveOneAnswer : Type 0

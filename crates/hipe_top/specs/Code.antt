@@ -8,9 +8,9 @@ use Rattle.amd64_form.specs.declared.reg.Reg.TheVariants.{Rax, Rcx, Rdi}
 use Rattle.amd64_form.specs.Encoding.{encoding}
 use Rattle.amd64_machine.specs.Integer.{word_of}
 use Rattle.amd64_machine.specs.Machine.{Over, Returned, start, machine_run}
-use Rattle.sum_reader.specs.declared.sum.Sum.{Sum}
-use Rattle.sum_reader.specs.declared.sum.Sum.TheOpen.{Sum-F}
-use Rattle.sum_reader.specs.declared.sum.Sum.TheFolds.{fold-Sum}
+use Rattle.core_sum.specs.declared.sum.Sum.{Sum}
+use Rattle.core_sum.specs.declared.sum.Sum.TheOpen.{Sum-F}
+use Rattle.core_sum.specs.declared.sum.Sum.TheFolds.{fold-Sum}
 use Rattle.hipe_top.specs.declared.limits.TheConstants.{STEPS}
 
 abbrev pub Code : Type 0

@@ -4,3 +4,6 @@ pub mod Code
 pub mod Outcome
 pub mod Stops
 pub mod Command
+pub mod Texts
+pub mod Finding
+pub mod Doing

@@ -2,14 +2,13 @@
 ghost use Rattle.std.specs.Prelude.{◌≡◌, ◌++◌, ◌≤◌, IfOk, OnOk};
 ghost use Rattle.amd64_form.specs.Encoding.{encoding};
 ghost use Rattle.amd64_machine.specs.Integer.{IsInteger, word_of};
-ghost use Rattle.sum_reader.specs.Sums.{HasSmallIntegers, count_of, value};
+ghost use Rattle.core_sum.specs.Sums.{HasSmallIntegers, count_of, value};
 ghost use Rattle.hipe_top.specs.Code.{addition, evaluation, ending, bytes_of, code_for, EndsWith};
 
-use super::limits::MOST_INTEGERS;
 use amd64_form::{BinaryOp, Inst, Reg, encode};
+use core_sum::{MOST_INTEGERS, Sum};
 use hipe_edge::Memory;
 use std::alloc::Global;
-use sum_reader::Sum;
 
 // The word that stands for an integer.
 fn word(n: i64) -> u64

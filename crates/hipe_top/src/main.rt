@@ -1,26 +1,28 @@
 // The compiler's program.
 //
-// It takes the words `run` and `'main'()` and, on standard input, the text of a module whose function `'main'/0`
-// gives a sum of integers. It makes AMD64 code of the sum, runs the code on the machine of `amd64_machine`, and writes
-// the value.
+// It takes on standard input the text of a module of Core Erlang. The word `check` tells whether the module is good. The words
+// `run` and `'main'()` take a good module whose function `'main'/0` gives a sum of integers: they make AMD64 code of the sum, run
+// the code on the machine of `amd64_machine`, and write the value.
 //
-// Promised here, on the contract of `hipe_alone`, for any source and any sinks: status 0 exactly where the words and
-// the text are good and no read, write or allocation failed, and then the line of the plain sum stands on out, which is
-// the integer with which the machine's own definition ends on the bytes of `code_of`; and for each other status what
-// stands on the source and the sinks. `main` only lends it standard input, output and error.
+// Promised here, on the contract of `hipe_alone`, for any source and any sinks: status 0 exactly where the words are good, the
+// text is one that their mode takes, and no read, write or allocation failed; and then the mode's line stands on out, for `run`
+// that of the plain sum, which is the integer with which the machine's own definition ends on the bytes of `code_of`; and for each
+// other status what stands on the source and the sinks. `main` only lends it standard input, output and error.
 //
 // Files:
 //   limits.rt   the limits, with their reasons
-//   words.rt    the words
+//   words.rt    the words and the modes that they name
 //   code.rt     `code_of`: the code of a sum, and its theorem
+//   place.rt    the place of a module in its text
 //   run.rt      from the source to the line on out
-//   stop.rt     why the program stops without a value: status and line
+//   stop.rt     why the program stops without it: status and line
 //   top.rt      `hipe_alone`
 //   tests.rt    the program in memory
 #![tactic(auto)]
 
 mod code;
 mod limits;
+mod place;
 mod run;
 mod stop;
 #[cfg(test)]
@@ -51,7 +53,7 @@ fn main(rt: HostRuntime) -> ExitCode {
     let mut err = StdSink::new(rt.stderr());
     let status = match program_words(&rt) {
         Ok(words) => hipe_alone(rt.alloc(), &words, &mut source, &mut out, &mut err),
-        Err(stop) => report(stop, &mut err),
+        Err(stop) => report(rt.alloc(), stop, &mut err),
     };
     ExitCode::from(status)
 }

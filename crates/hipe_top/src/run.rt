@@ -1,15 +1,24 @@
-// Running the text of a sum.
-ghost use Rattle.std.specs.Prelude.{◌≤◌};
-ghost use Rattle.sum_reader.specs.Sums.{HasSmallIntegers, count_of};
-ghost use Rattle.hipe_top.specs.Outcome.{RanSum, RanText, stream};
+// Doing what a mode does with a text.
+ghost use Rattle.std.specs.Prelude.{◌≡◌, ◌<◌, ◌≤◌, ◌^◌, length, IfOk, IfErr};
+ghost use Rattle.core_ast.specs.Trees.{module_of};
+ghost use Rattle.core_reader.specs.Language.{Reads};
+ghost use Rattle.core_sum.specs.Sums.{HasSmallIntegers, count_of};
+ghost use Rattle.core_sum.specs.Form.{IsSumModule};
+ghost use Rattle.hipe_top.specs.Outcome.{DidText, DidSource, stream};
+ghost use Rattle.hipe_top.specs.Doing.{RanSum, WroteOk, IsStop, IsRunStop};
 
 use super::code::code_of;
-use super::limits::{MOST_INTEGERS, STEPS, TEXT_LIMIT};
-use super::stop::Stop;
+use super::limits::{STEPS, TEXT_LIMIT};
+use super::place::module_place;
+use super::stop::{Reason, Stop};
+use super::words::Mode;
 use amd64_machine::Machine;
-use hipe_edge::{Sink, Source, read_all};
+use core_ast::GoodModule;
+use core_lint::lint;
+use core_reader::read_module;
+use core_sum::{MOST_INTEGERS, Sum, SumRefusal, sum_of};
+use hipe_edge::{Sink, Source, read_all, write_line};
 use std::alloc::Global;
-use sum_reader::{Sum, read_sum};
 
 // Makes the code of a sum, runs it and writes the line of its value.
 fn run_sum<O: Sink>(alloc: Global, e: &Sum, steps: u64, out: &mut O) -> Result<(), Stop>
@@ -26,13 +35,86 @@ fn run_sum<O: Sink>(alloc: Global, e: &Sum, steps: u64, out: &mut O) -> Result<(
     Ok(())
 }
 
-/// Reads the source to its end as the text of a sum, runs it and writes the line of its value.
-pub fn run_text<S: Source, O: Sink>(alloc: Global, source: &mut S, out: &mut O) -> Result<(), Stop>
-    ensures { RanText
+// The good module of a text.
+fn good_module(alloc: Global, text: &[u8]) -> Result<GoodModule, Stop>
+    requires { length text.now ≤ TEXT_LIMIT }
+    ensures reads { IfOk result (λ good. Reads text.now good.tree) }
+    ensures stop { IfErr result (λ stop. IsStop text.now stop) }
+{
+    let module = read_module(alloc, text)?;
+    let good = lint(alloc, module)?;
+    Ok(good)
+}
+
+// The sum of a good module.
+fn module_sum(alloc: Global, text: &[u8], good: &GoodModule) -> Result<Sum, Stop>
+    requires short { length text.now ≤ TEXT_LIMIT }
+    requires reads { Reads text.now good.now.tree }
+    ensures sum { IfOk result (λ e. IsSumModule (module_of good.now.tree) e) }
+    ensures small { IfOk result (λ e. HasSmallIntegers e) }
+    ensures few { IfOk result (λ e. count_of e ≤ MOST_INTEGERS) }
+    ensures stop { IfErr result (λ stop. IsRunStop text.now good.now.tree stop) }
+{
+    match sum_of(alloc, good) {
+        Ok(sum) => Ok(sum),
+        Err(SumRefusal::NotExported) => {
+            let at = module_place(alloc, text)?;
+            Err(Stop::Refused {
+                reason: Reason::NotYet,
+                at,
+            })
+        }
+        Err(SumRefusal::NotYet { at }) => Err(Stop::Refused {
+            reason: Reason::NotYet,
+            at,
+        }),
+        Err(SumRefusal::Memory) => Err(Stop::Memory),
+    }
+}
+
+// Writes that the text is a good module.
+fn write_ok<O: Sink>(out: &mut O) -> Result<(), Stop>
+    ensures { WroteOk (stream (O.written out.old) (O.written out.new) (O.faults out.old) (O.faults out.new)) result }
+{
+    write_line(out, b"ok\n")?;
+    Ok(())
+}
+
+// Compiles and runs a good module, and writes the line of its value.
+fn run_module<O: Sink>(alloc: Global, text: &[u8], good: &GoodModule, out: &mut O) -> Result<(), Stop>
+    requires short { length text.now ≤ TEXT_LIMIT }
+    requires reads { Reads text.now good.now.tree }
+    ensures { DidText Mode.Run text.now
+        (stream (O.written out.old) (O.written out.new) (O.faults out.old) (O.faults out.new)) result }
+{
+    let sum = module_sum(alloc, text, good)?;
+    run_sum(alloc, &sum, STEPS, out)
+}
+
+// Does what the mode does with a text.
+fn answer_text<O: Sink>(alloc: Global, mode: Mode, text: &[u8], out: &mut O) -> Result<(), Stop>
+    requires { length text.now ≤ TEXT_LIMIT }
+    ensures { DidText mode text.now
+        (stream (O.written out.old) (O.written out.new) (O.faults out.old) (O.faults out.new)) result }
+{
+    let good = good_module(alloc, text)?;
+    match mode {
+        Mode::Check => write_ok(out),
+        Mode::Run => run_module(alloc, text, &good, out),
+    }
+}
+
+/// Reads the source to its end as a text, and does what the mode does with it.
+pub fn answer_source<S: Source, O: Sink>(
+    alloc: Global,
+    mode: Mode,
+    source: &mut S,
+    out: &mut O,
+) -> Result<(), Stop>
+    ensures { DidSource mode
         (stream (S.left source.old) (S.left source.new) (S.faults source.old) (S.faults source.new))
         (stream (O.written out.old) (O.written out.new) (O.faults out.old) (O.faults out.new)) result }
 {
     let text = read_all(alloc, source, TEXT_LIMIT)?;
-    let sum = read_sum(alloc, &text)?;
-    run_sum(alloc, &sum, STEPS, out)
+    answer_text(alloc, mode, &text, out)
 }

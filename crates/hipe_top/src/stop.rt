@@ -1,29 +1,87 @@
-// Why the program stops without a value: its status, and its line.
-ghost use Rattle.std.specs.Prelude.{◌≡◌};
-ghost use Rattle.hipe_top.specs.declared.stop.Stop.TheVariants.{Memory as NoMemory};
-ghost use Rattle.hipe_top.specs.Outcome.{Reported, stream};
-ghost use Rattle.hipe_top.specs.Stops.{status_of, status_unwritten, line_of, stop_of_reading, stop_of_refusal, stop_of_result};
+// Why the program stops without doing what it was asked for: its status, and its line.
+ghost use Rattle.std.specs.Prelude.{◌≡◌, string_bytes, IfOk};
+ghost use Rattle.hipe_top.specs.declared.stop.Stop.{Stop as AStop};
+ghost use Rattle.hipe_top.specs.Outcome.{Reported, Ended, stream};
+ghost use Rattle.hipe_top.specs.Stops.{status_of, status_unwritten, name_of, rule_name, line_of, stop_of_source, stop_of_reading, stop_of_lint, stop_of_result};
 
 use amd64_machine::ResultFault;
-use hipe_edge::{ReadAllFault, Sink, write_line};
-use std::alloc::AllocError;
-use sum_reader::SumRefusal;
+use core_ast::{Place, Rule};
+use core_lint::LintRefusal;
+use core_reader::ReadRefusal;
+use hipe_edge::{ReadAllFault, Sink, WriteFault, write_line};
+use std::alloc::{AllocError, Global};
 
-/// Why the program stops without a value.
+/// Why a text is refused at a place.
+#[derive(Clone, Copy, Debug, PartialEq, Eq)]
+pub enum Reason {
+    /// There is no token, or a byte that isn't UTF-8.
+    Token,
+    /// An integer isn't within the range.
+    WideInteger,
+    /// An atom has more than 255 code points.
+    LongAtom,
+    /// No module goes on with the token, or ends there.
+    Syntax,
+    /// A part of level 1,001 begins.
+    TooDeep,
+    /// What Core Erlang has and the profile hasn't.
+    NotInProfile,
+    /// A rule of good modules is broken.
+    Broken(Rule),
+    /// What can't be compiled yet.
+    NotYet,
+}
+
+/// Why the program stops without doing what it was asked for.
 #[derive(Clone, Copy, Debug, PartialEq, Eq)]
 pub enum Stop {
     /// The words aren't those of a command.
     Words,
     /// The input has more bytes than a text may have.
     TooLong,
-    /// The text isn't a module that can be compiled yet.
-    NotYet,
+    /// The text is refused at a place.
+    Refused { reason: Reason, at: Place },
     /// A read failed.
     ReadFault,
     /// A write failed.
     WriteFault,
     /// Memory ran out.
     Memory,
+}
+
+// The name of a rule in a line.
+fn rule_name(rule: Rule) -> &'static str
+    ensures { result.now ≡ rule_name rule }
+{
+    match rule {
+        Rule::DuplicateFunction => "duplicate_function",
+        Rule::ExportUndefined => "export_undefined",
+        Rule::UnboundFunction => "unbound_function",
+        Rule::UnboundVariable => "unbound_variable",
+        Rule::DuplicateVariable => "duplicate_variable",
+        Rule::Degree => "degree",
+        Rule::ArityLimit => "arity_limit",
+        Rule::UnknownPrimop => "unknown_primop",
+        Rule::SizeLimit => "size_limit",
+    }
+}
+
+impl Reason {
+    /// The name in a line.
+    pub fn name(self) -> &'static str
+        ensures { result.now ≡ name_of self }
+    {
+        match self {
+            Reason::Token => "token",
+            Reason::WideInteger => "wide_integer",
+            Reason::LongAtom => "long_atom",
+            Reason::Syntax => "syntax",
+            Reason::TooDeep => "too_deep",
+            Reason::NotInProfile => "not_in_profile",
+            Reason::Broken(rule) => rule_name(rule),
+            Reason::NotYet => "not_yet",
+        }
+    }
 }
 
 impl Stop {
@@ -33,7 +91,7 @@ impl Stop {
     {
         match self {
             Stop::Words => 2,
-            Stop::TooLong | Stop::NotYet => 3,
+            Stop::TooLong | Stop::Refused { .. } => 3,
             Stop::ReadFault => 6,
             Stop::WriteFault => 7,
             Stop::Memory => 8,
@@ -50,43 +108,66 @@ impl Stop {
             _ => 7,
         }
     }
-
-    /// The line on err, with its newline.
-    pub fn line(self) -> &'static [u8]
-        ensures { result.now ≡ line_of self }
-    {
-        match self {
-            Stop::Words => b"hipe: words\n",
-            Stop::TooLong => b"hipe: too_long\n",
-            Stop::NotYet => b"hipe: not_yet 1:1\n",
-            Stop::ReadFault => b"hipe: read_fault\n",
-            Stop::WriteFault => b"hipe: write_fault\n",
-            Stop::Memory => b"hipe: memory\n",
-        }
-    }
 }
 
-/// Writes the line on err, and answers the exit status.
-pub fn report<E: Sink>(stop: Stop, err: &mut E) -> u8
+// The line on err of a text that is refused at a place, with its newline.
+fn refusal_line(alloc: Global, reason: Reason, at: Place) -> Result<String, AllocError>
+    ensures { IfOk result (λ line. string_bytes line ≡ line_of (AStop.Refused reason at)) }
+{
+    let name = reason.name();
+    let Place { line, col } = at;
+    format!(in alloc; "hipe: {name} {line}:{col}\n")
+}
+
+// Writes the line on err, and answers the exit status.
+fn end<E: Sink>(stop: Stop, line: &[u8], err: &mut E) -> u8
+    requires { line.now ≡ line_of stop }
     ensures { Reported stop
         (stream (E.written err.old) (E.written err.new) (E.faults err.old) (E.faults err.new)) result }
 {
-    match write_line(err, stop.line()) {
+    match write_line(err, line) {
         Ok(()) => stop.status(),
         Err(_) => stop.status_unwritten(),
     }
 }
 
+/// Writes the line on err, and answers the exit status. Where there is no memory for the line of a refused text, it is the line
+/// and the status of that.
+pub fn report<E: Sink>(alloc: Global, stop: Stop, err: &mut E) -> u8
+    ensures { Ended stop
+        (stream (E.written err.old) (E.written err.new) (E.faults err.old) (E.faults err.new)) result }
+{
+    match stop {
+        Stop::Words => end(stop, b"hipe: words\n", err),
+        Stop::TooLong => end(stop, b"hipe: too_long\n", err),
+        Stop::Refused { reason, at } => match refusal_line(alloc, reason, at) {
+            Ok(line) => end(stop, line.as_bytes(), err),
+            Err(_) => end(Stop::Memory, b"hipe: memory\n", err),
+        },
+        Stop::ReadFault => end(stop, b"hipe: read_fault\n", err),
+        Stop::WriteFault => end(stop, b"hipe: write_fault\n", err),
+        Stop::Memory => end(stop, b"hipe: memory\n", err),
+    }
+}
+
 impl From<AllocError> for Stop {
-    ghost from_gives = { λ _ stop. stop ≡ NoMemory };
+    ghost from_gives = { λ _ stop. stop ≡ AStop.Memory };
 
     fn from(_error: AllocError) -> Stop {
         Stop::Memory
     }
 }
 
+impl From<WriteFault> for Stop {
+    ghost from_gives = { λ _ stop. stop ≡ AStop.WriteFault };
+
+    fn from(_fault: WriteFault) -> Stop {
+        Stop::WriteFault
+    }
+}
+
 impl From<ReadAllFault> for Stop {
-    ghost from_gives = { λ fault stop. stop ≡ stop_of_reading fault };
+    ghost from_gives = { λ fault stop. stop ≡ stop_of_source fault };
 
     fn from(fault: ReadAllFault) -> Stop {
         match fault {
@@ -97,13 +178,36 @@ impl From<ReadAllFault> for Stop {
     }
 }
 
-impl From<SumRefusal> for Stop {
-    ghost from_gives = { λ refusal stop. stop ≡ stop_of_refusal refusal };
+// A text that is refused at a place.
+fn refused(reason: Reason, at: Place) -> Stop
+    ensures { result ≡ AStop.Refused reason at }
+{
+    Stop::Refused { reason, at }
+}
 
-    fn from(refusal: SumRefusal) -> Stop {
+impl From<ReadRefusal> for Stop {
+    ghost from_gives = { λ refusal stop. stop ≡ stop_of_reading refusal };
+
+    fn from(refusal: ReadRefusal) -> Stop {
         match refusal {
-            SumRefusal::NotYet => Stop::NotYet,
-            SumRefusal::Memory => Stop::Memory,
+            ReadRefusal::Token { at } => refused(Reason::Token, at),
+            ReadRefusal::WideInteger { at } => refused(Reason::WideInteger, at),
+            ReadRefusal::LongAtom { at } => refused(Reason::LongAtom, at),
+            ReadRefusal::Syntax { at } => refused(Reason::Syntax, at),
+            ReadRefusal::TooDeep { at } => refused(Reason::TooDeep, at),
+            ReadRefusal::NotInProfile { at } => refused(Reason::NotInProfile, at),
+            ReadRefusal::Memory => Stop::Memory,
+        }
+    }
+}
+
+impl From<LintRefusal> for Stop {
+    ghost from_gives = { λ refusal stop. stop ≡ stop_of_lint refusal };
+
+    fn from(refusal: LintRefusal) -> Stop {
+        match refusal {
+            LintRefusal::Broken { rule, at } => refused(Reason::Broken(rule), at),
+            LintRefusal::Memory => Stop::Memory,
         }
     }
 }

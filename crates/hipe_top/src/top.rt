@@ -4,9 +4,9 @@ ghost use Rattle.std.specs.String.{string_bytes};
 ghost use Rattle.hipe_top.specs.Answers.{HaveOneAnswer};
 ghost use Rattle.hipe_top.specs.Outcome.{EndedByItself, Answered, RanOutOfMemory, ReadFailed, WriteFailed, Accepts, stream};
 
-use super::run::run_text;
+use super::run::answer_source;
 use super::stop::{Stop, report};
-use super::words::is_run;
+use super::words::mode_of;
 use hipe_edge::{Sink, Source};
 use std::alloc::Global;
 
@@ -18,15 +18,18 @@ pub fn one_answer()
 
 /// Does what the words say with the source's text, and answers the exit status. It takes no lock and always returns.
 ///
-/// `run` and the call `'main'()` are the only words. They read the text of a module whose function `'main'/0` gives a
-/// sum of integers, make AMD64 code of it, run the code on the machine, and write `value`, a space, the sum and a
-/// newline on out. Each other end writes nothing on out but a front of that line, and a line of its own on err.
+/// The word `check` tells whether the text is a good module, and then writes `ok` and a newline on out. The words `run` and
+/// `'main'()` take a good module whose one function `'main'/0` gives a sum of integers: they make AMD64 code of it, run the code
+/// on the machine, and write `value`, a space, the sum and a newline on out. Each other end writes nothing on out but a front of
+/// that line, and a line of its own on err.
 ///
 /// # Statuses
 ///
 /// - 0: the line was written.
-/// - 2: the words aren't these.
-/// - 3: the input is longer than a text may be, or isn't the text of a sum.
+/// - 2: the words are others.
+/// - 3: the input is longer than a text may be, or isn't a good module, or for `run` not one of this form. The line names the
+///   refusal and its place: the first fault of the tokens, else the first of the grammar, else the first broken rule, else
+///   `not_yet`.
 /// - 6: a read failed.
 /// - 7: a write failed.
 /// - 8: there was no memory.
@@ -62,11 +65,11 @@ pub fn hipe_alone<S: Source, O: Sink, E: Sink>(
     ensures accepts { EndedByItself result →
         IfSome (S.left source.old) (λ bytes. Accepts (map string_bytes words.now) bytes result) }
 {
-    if !is_run(words) {
-        return report(Stop::Words, err);
-    }
-    match run_text(alloc, source, out) {
+    let Some(mode) = mode_of(words) else {
+        return report(alloc, Stop::Words, err);
+    };
+    match answer_source(alloc, mode, source, out) {
         Ok(()) => 0,
-        Err(stop) => report(stop, err),
+        Err(stop) => report(alloc, stop, err),
     }
 }

@@ -1,5 +1,5 @@
 use Rattle.std.proofs.Common.{subst, sym}
-use Rattle.sum_reader.specs.Sums.{value}
+use Rattle.core_sum.specs.Sums.{value}
 use Rattle.hipe_top.specs.Code.{EndsWith}
 use Rattle.hipe_top.proofs.Emission.{whole_appended}
 use Rattle.hipe_top.proofs.Meaning.{means}

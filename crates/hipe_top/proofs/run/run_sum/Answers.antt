@@ -3,7 +3,7 @@ use Rattle.std.specs.Io.KnownBytes.{Appends, Keeps}
 use Rattle.std.proofs.lemmas.Result.{err_from_is_err_and}
 use Rattle.hipe_edge.specs.Bytes.{AppendsPrefix}
 use Rattle.hipe_edge.specs.Counts.{Rises}
-use Rattle.sum_reader.specs.Sums.{value}
+use Rattle.core_sum.specs.Sums.{value}
 use Rattle.amd64_machine.specs.Result.{result_line, value_line}
 use Rattle.amd64_machine.specs.Seen.{state_of}
 use Rattle.hipe_top.specs.Code.{EndsWith}

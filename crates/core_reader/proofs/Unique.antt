@@ -1,0 +1,39 @@
+-- A text reads as one module, or is refused for one reason.
+use Rattle.std.proofs.Common.{◌≡◌, ℕ, List, Result, Ok, Err, refl, sym, ap, ◌∙◌, subst}
+use Rattle.hipe_terms.specs.declared.place.Place.{Place}
+use Rattle.core_token.specs.declared.token.Token.{Token}
+use Rattle.core_token.specs.declared.token.TokenKind.{TokenKind}
+use Rattle.core_token.specs.Text.{AreTokensOf, IsRefused}
+use Rattle.core_token.proofs.Cuts.{unique}
+use Rattle.core_ast.specs.declared.tree.Module.{Module}
+use Rattle.core_grammar.specs.declared.fault.Fault.{Fault}
+use Rattle.core_grammar.specs.Language.{limit, Derives, Refused, IsAnswer}
+use Rattle.core_parser.proofs.OneAnswer.{one_answer}
+use Rattle.core_parser.proofs.Modules.{one_module}
+use Rattle.core_reader.specs.declared.limit.TheConstants.{LEVEL_LIMIT}
+use Rattle.core_reader.specs.declared.refusal.ReadRefusal.{ReadRefusal}
+use Rattle.core_reader.specs.Terminals.{terminals_of}
+use Rattle.core_reader.specs.Language.{end_of, token_refusal, fault_refusal, Reads, ReadsNone, IsRefusedAs, no_tokens, no_module}
+
+pub one_reading : (s : List ℕ) (m n : Module) → Reads s m → Reads s n → m ≡ n
+one_reading s m n (ts, t, d) (us, u, e) =
+    one_module (limit LEVEL_LIMIT) (terminals_of s ts) m n d (subst (λ xs. Derives (limit LEVEL_LIMIT) (terminals_of s xs) n) (unique.one_list s us ts u t) e)
+
+same_fault : (k l : TokenKind) (p q : Place) → (k ≡ l) × (p ≡ q) → token_refusal k p ≡ token_refusal l q
+same_fault k l p q (a, b) = ap (λ x. token_refusal x p) a ∙ ap (λ x. token_refusal l x) b
+
+same_stop : (f g : Fault) (p q : Place) → f ≡ g → p ≡ q → fault_refusal f p ≡ fault_refusal g q
+same_stop f g p q a b = ap (λ x. fault_refusal x p) a ∙ ap (λ x. fault_refusal g x) b
+
+parts : (f g : Fault) (p q : Place) (a b : Result Module (Fault × Place)) → a ≡ Err (f, p) → b ≡ Err (g, q) → a ≡ b → (f ≡ g) × (p ≡ q)
+parts f g p q a b d e h = let both : ◌≡◌ {A = Fault × Place} (f, p) (g, q) = cc in (ap (λ (x : Fault × Place). x.0) both, ap (λ (x : Fault × Place). x.1) both)
+
+pub one_refusal : (s : List ℕ) → ReadsNone s → (a b : ReadRefusal) → IsRefusedAs s a → IsRefusedAs s b → a ≡ b
+one_refusal s none _ _ (no_tokens k p h) (no_tokens l q g) = same_fault k l p q (unique.one_fault s k l p q h g)
+one_refusal s none _ _ (no_tokens k p h) (no_module us g q u r) = absurd (unique.not_both s us k p u h)
+one_refusal s none _ _ (no_module ts f p t r) (no_tokens l q g) = absurd (unique.not_both s ts l q t g)
+one_refusal s none _ _ (no_module ts f p t r) (no_module us g q u o) =
+    let same : Refused LEVEL_LIMIT (end_of s) (terminals_of s ts) g q = subst (λ xs. Refused LEVEL_LIMIT (end_of s) (terminals_of s xs) g q) (unique.one_list s us ts u t) o in
+    let not_derived : (m : Module) → Derives (limit LEVEL_LIMIT) (terminals_of s ts) m → ⊥ = λ m d. none m (ts, t, d) in
+    let two = parts f g p q (Err (f, p)) (Err (g, q)) refl refl (one_answer LEVEL_LIMIT (end_of s) (terminals_of s ts) (Err (f, p)) (Err (g, q)) (r, not_derived) (same, not_derived)) in
+    same_stop f g p q two.0 two.1
