@@ -78,7 +78,7 @@ pub fn ill_formed_from(at: Place, text: &[u8]) -> Option<Place>
     requires few_lines { at.line < 2 ^ 33 }
     requires few_columns { at.col < 2 ^ 33 }
     ensures place { result ≡ ill_formed_from at text.now }
-    // It is `None` exactly where the text is UTF-8.
+    // Where there is none, the text is UTF-8.
     ensures utf8 { IfNone result (IsUtf8 text.now) }
 {
     let mut at = at;
