@@ -9,7 +9,7 @@
 // The lines of `stdin` and `stdout` are made by `table`, which has the expected answers by hand.
 #![tactic(auto)]
 
-use core_ast::{Place, Rule, is_well_formed};
+use core_ast::{Place, Rule};
 use core_lint::{LintRefusal, lint};
 use core_reader::read_module;
 use std::alloc::{AllocError, Global};
@@ -50,9 +50,6 @@ fn module(alloc: Global, text: &str) -> Answer {
     let Ok(m) = read_module(alloc, text.as_bytes()) else {
         return String::from_str(alloc, "not read");
     };
-    if !is_well_formed(&m) {
-        return String::from_str(alloc, "not well formed");
-    }
     match lint(alloc, m) {
         Ok(_) => String::from_str(alloc, "good"),
         Err(LintRefusal::Broken { rule, at }) => broken(alloc, rule, at),

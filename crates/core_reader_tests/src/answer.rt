@@ -1,7 +1,11 @@
 // The answer to each command.
 
+ghost use Rattle.std.specs.Prelude.{IfOk};
+ghost use Rattle.core_ast.specs.Trees.{module_of};
+ghost use Rattle.core_ast.specs.WellFormed.{IsWellFormed};
+
 use crate::shown::{show_call, show_module, without_places};
-use core_ast::{Module, is_well_formed};
+use core_ast::Module;
 use core_print::print_module;
 use core_reader::{CallRefusal, ReadRefusal, read_call, read_module};
 use hipe_terms::Place;
@@ -32,7 +36,9 @@ fn refusal(alloc: Global, why: ReadRefusal) -> Answer {
 }
 
 // The module of a text that isn't too long here.
-fn read(alloc: Global, text: &[u8]) -> Result<Module, ReadRefusal> {
+fn read(alloc: Global, text: &[u8]) -> Result<Module, ReadRefusal>
+    ensures { IfOk result (λ m. IsWellFormed (module_of m)) }
+{
     if text.len() > LONGEST {
         return Err(ReadRefusal::Memory);
     }
@@ -181,22 +187,13 @@ pub fn nested(alloc: Global, rest: &str) -> Answer {
     }
 }
 
-// The printed text of a module, or why there is none.
-fn text_of(alloc: Global, m: &Module) -> Result<Vec<u8>, &'static str> {
-    if !is_well_formed(m) {
-        return Err("not well formed");
-    }
-    match print_module(alloc, m) {
-        Ok(text) => Ok(text),
-        Err(_) => Err("memory"),
-    }
-}
-
 // A module without its places, and whether it is the same when it is printed and read again.
-fn same_again(alloc: Global, m: &Module) -> Answer {
-    let text = match text_of(alloc, m) {
+fn same_again(alloc: Global, m: &Module) -> Answer
+    requires { IsWellFormed (module_of m.now) }
+{
+    let text = match print_module(alloc, m) {
         Ok(text) => text,
-        Err(why) => return String::from_str(alloc, why),
+        Err(_) => return String::from_str(alloc, "memory"),
     };
     let second = match read(alloc, text.as_slice()) {
         Ok(second) => second,
@@ -225,11 +222,12 @@ pub fn printed(alloc: Global, text: &str) -> Answer {
         Ok(m) => m,
         Err(why) => return refusal(alloc, why),
     };
-    match text_of(alloc, &m) {
-        Ok(text) => match String::from_utf8(text) {
-            Ok(text) => Ok(text),
-            Err(_) => String::from_str(alloc, "no UTF-8"),
-        },
-        Err(why) => String::from_str(alloc, why),
+    let text = match print_module(alloc, &m) {
+        Ok(text) => text,
+        Err(_) => return String::from_str(alloc, "memory"),
+    };
+    match String::from_utf8(text) {
+        Ok(text) => Ok(text),
+        Err(_) => String::from_str(alloc, "no UTF-8"),
     }
 }
