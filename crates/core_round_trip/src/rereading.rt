@@ -4,6 +4,7 @@ ghost use Rattle.std.specs.Prelude.{◌≡◌, ◌<◌, ◌^◌, length, IfOk, I
 ghost use Rattle.core_ast.specs.Trees.{module_of};
 ghost use Rattle.core_ast.specs.SameTree.{SameTree};
 ghost use Rattle.core_print.specs.Printed.{printed};
+ghost use Rattle.core_reader.specs.Language.{Reads};
 ghost use Rattle.core_reader.specs.declared.refusal.ReadRefusal.TheVariants.{Memory};
 ghost use Rattle.core_round_trip.specs.Laws.{IsOfText};
 
@@ -18,6 +19,7 @@ use std::alloc::Global;
 pub fn reread(alloc: Global, m: &Module) -> Result<Module, ReadRefusal>
     requires of_text { IsOfText m.now }
     requires short { length (printed (module_of m.now)) < 2 ^ 32 }
+    ensures text { IfOk result (λ n. Reads (printed (module_of m.now)) n) }
     ensures same { IfOk result (λ n. SameTree n m.now) }
     ensures memory { IfErr result (λ refusal. refusal ≡ Memory) }
 {
