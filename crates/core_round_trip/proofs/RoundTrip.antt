@@ -14,7 +14,7 @@ use Rattle.core_reader.specs.declared.limit.TheConstants.{LEVEL_LIMIT}
 use Rattle.core_reader.specs.declared.refusal.ReadRefusal.{ReadRefusal}
 use Rattle.core_ast.specs.SameTree.{SameTree}
 use Rattle.core_reader.specs.Terminals.{terminals_of}
-use Rattle.core_reader.specs.Language.{ReadsNone, Only}
+use Rattle.core_reader.specs.Language.{Answers, Only, Reads, ReadsNone}
 use Rattle.core_round_trip.specs.Laws.{IsOfText, ReadsBack, PrintedReadsBack}
 use Rattle.core_round_trip.proofs.Fits.{ModuleFits}
 use Rattle.core_round_trip.proofs.Derived.{module_fits}
@@ -46,6 +46,13 @@ reads_back m (s, (ts, t, d)) = let h = of_text s m ts t d in fits_back m (attrib
 
 -- ---- what the reader answers on the printed text
 
+pub read_so : (m : Module) (r : Result Module ReadRefusal) → Answers (printed (module_of m)) r → IfOk r (λ n. Reads (printed (module_of m)) n)
+read_so m (Ok n) h = h
+read_so m (Err e) h = tt
+
+pub answer_of_text : (s : List ℕ) (m : Module) → Answers s (Ok m) → IsOfText m
+answer_of_text s m h = (s, h)
+
 same : (s : List ℕ) (m n : Module) → ReadsBack s m → Only s (Ok n) → SameTree n m
 same s m n (o, r, e) only = subst (λ x. SameTree x m) (only o r) e
 
@@ -66,4 +73,6 @@ memory_alone m (Err (ReadRefusal.Syntax p)) h only = absurd (refused (printed (m
 memory_alone m (Err (ReadRefusal.TooDeep p)) h only = absurd (refused (printed (module_of m)) m (reads_back m h) only)
 memory_alone m (Err (ReadRefusal.NotInProfile p)) h only = absurd (refused (printed (module_of m)) m (reads_back m h) only)
 
-pub ruleset rereading = (well_formed, same_read, memory_alone)
+pub ruleset reading = (well_formed, answer_of_text)
+
+pub ruleset rereading = (well_formed, read_so, same_read, memory_alone)

@@ -6,10 +6,13 @@
 // Files:
 //   law.rt        the law, of texts and modules
 //   rereading.rt  the same of the printer and the reader
+//   tests.rt      the factorial, read and printed twice
 #![tactic(auto)]
 
 pub mod law;
 pub mod rereading;
+#[cfg(test)]
+mod tests;
 
 pub use law::printed_reads_back;
 pub use rereading::reread;
