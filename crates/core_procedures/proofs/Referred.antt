@@ -1,0 +1,32 @@
+-- The names that references lead to.
+use Rattle.std.proofs.Common.{◌≡◌, ℕ, List, [], ◌∷◌, ◌++◌, map, refl, ap, append_assoc, append-nil, Bor}
+use Rattle.core_ast.specs.Names.{variables_of, variables_of_all}
+use Rattle.core_ast.specs.Trees.{definition_of, definitions, Pattern, Patterns, no_pattern, and_pattern}
+use Rattle.core_ast.specs.declared.tree.FunDef.{FunDef, out-FunDef}
+use Rattle.core_meaning.specs.Scopes.{function_names, names, bound_by}
+use Rattle.std.proofs.lemmas.List.{map-append}
+use Rattle.std.proofs.lemmas.Map.Text.{is_eq-slice_cmp}
+use Rattle.core_ast.proofs.Levels as Levels
+use Rattle.core_procedures.specs.Shown.{names_in}
+
+pub names_append : (xs ys : List (Bor (List ℕ))) → names_in (xs ++ ys) ≡ names_in xs ++ names_in ys
+names_append [] ys = refl
+names_append (x ∷ xs) ys = ap (λ l. x.now ∷ l) (names_append xs ys)
+
+pub defined_now : (d : FunDef) (ds : List FunDef) → function_names (definitions (map definition_of (d ∷ ds))) ≡ (out-FunDef d).name ∷ function_names (definitions (map definition_of ds))
+defined_now d ds = ap (λ e. e.name ∷ function_names (definitions (map definition_of ds))) (Levels.definition_is d)
+
+pub bound_append : (p : Pattern) (ps : Patterns) → bound_by (and_pattern p ps) ≡ names (variables_of p) ++ bound_by ps
+bound_append p ps = map-append (λ x. x.name) (variables_of p) (variables_of_all ps)
+
+pub ruleset pattern_levels = (Levels.pattern_levels, names_append, map-append, append_assoc, append-nil)
+
+pub ruleset levels = (Levels.levels, append_assoc, append-nil)
+
+pub ruleset same_names = (is_eq-slice_cmp)
+
+pub ruleset defining = (Levels.levels, defined_now)
+
+pub ruleset naming = (names_append, append_assoc)
+
+pub ruleset keeping = (map-append, append_assoc)
