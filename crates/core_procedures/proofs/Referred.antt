@@ -1,10 +1,13 @@
 -- The names that references lead to.
-use Rattle.std.proofs.Common.{◌≡◌, ℕ, List, [], ◌∷◌, ◌++◌, map, refl, ap, append_assoc, append-nil, Bor}
+use Rattle.std.proofs.Common.{◌≡◌, ℕ, ◌+◌, ◌<◌, List, [], ◌∷◌, ◌++◌, map, drop, length, get_or, true, false, refl, sym, ap, ◌∙◌, append_assoc, append-nil, Bor}
+use Rattle.std.specs.Prelude.{Bool, ◌||◌}
+use Rattle.std.specs.List.{list_any}
 use Rattle.core_ast.specs.Names.{variables_of, variables_of_all}
 use Rattle.core_ast.specs.Trees.{definition_of, definitions, Pattern, Patterns, no_pattern, and_pattern}
 use Rattle.core_ast.specs.declared.tree.FunDef.{FunDef, out-FunDef}
+use Rattle.core_ast.specs.declared.tree.FunName.{FunName}
 use Rattle.core_meaning.specs.Scopes.{function_names, names, bound_by}
-use Rattle.std.proofs.lemmas.List.{map-append}
+use Rattle.std.proofs.lemmas.List.{map-append, at_drop_more}
 use Rattle.std.proofs.lemmas.Map.Text.{is_eq-slice_cmp}
 use Rattle.core_ast.proofs.Levels as Levels
 use Rattle.core_procedures.specs.Shown.{names_in}
@@ -15,6 +18,23 @@ names_append (x ∷ xs) ys = ap (λ l. x.now ∷ l) (names_append xs ys)
 
 pub defined_now : (d : FunDef) (ds : List FunDef) → function_names (definitions (map definition_of (d ∷ ds))) ≡ (out-FunDef d).name ∷ function_names (definitions (map definition_of ds))
 defined_now d ds = ap (λ e. e.name ∷ function_names (definitions (map definition_of ds))) (Levels.definition_is d)
+
+-- whether a function of these passes a test, where the first of those that are left is d
+abbrev named_of : (FunName → Bool) → List FunDef → Bool
+named_of test ds = list_any test (function_names (definitions (map definition_of ds)))
+
+named_now : (test : FunName → Bool) (d : FunDef) (ds : List FunDef) (i : ℕ) (r : Bool) → i < length ds → d ≡ get_or ds i d → named_of test (drop i ds) ≡ r → (test (out-FunDef d).name || named_of test (drop (i + 1) ds)) ≡ r
+named_now test d ds i r h is e =
+    sym (ap (list_any test) (defined_now d (drop (i + 1) ds)))
+    ∙ ap (λ x. named_of test (x ∷ drop (i + 1) ds)) is
+    ∙ sym (at_drop_more (named_of test) ds i d h)
+    ∙ e
+
+pub named_here : (test : FunName → Bool) (d : FunDef) (ds : List FunDef) (i : ℕ) (r : Bool) → i < length ds → d ≡ get_or ds i d → test (out-FunDef d).name ≡ true → named_of test (drop i ds) ≡ r → true ≡ r
+named_here test d ds i r h is t e = ap (λ b. b || named_of test (drop (i + 1) ds)) (sym t) ∙ named_now test d ds i r h is e
+
+pub named_later : (test : FunName → Bool) (d : FunDef) (ds : List FunDef) (i : ℕ) (r : Bool) → i < length ds → d ≡ get_or ds i d → test (out-FunDef d).name ≡ false → named_of test (drop i ds) ≡ r → named_of test (drop (i + 1) ds) ≡ r
+named_later test d ds i r h is f e = ap (λ b. b || named_of test (drop (i + 1) ds)) (sym f) ∙ named_now test d ds i r h is e
 
 pub bound_append : (p : Pattern) (ps : Patterns) → bound_by (and_pattern p ps) ≡ names (variables_of p) ++ bound_by ps
 bound_append p ps = map-append (λ x. x.name) (variables_of p) (variables_of_all ps)

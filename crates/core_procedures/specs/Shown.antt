@@ -1,5 +1,6 @@
 -- The scopes and functions of the meaning that those of the code stand for.
-use Rattle.std.specs.Prelude.{ℕ, suc, List, [], ◌∷◌, map, length}
+use Rattle.std.specs.Prelude.{ℕ, suc, ◌==◌, if◌then◌else◌, List, [], ◌∷◌, ◌++◌, map, length}
+use Rattle.std.specs.List.{list_any}
 use denote.Bor.{Bor}
 use Rattle.core_ast.specs.Trees as Trees
 use Rattle.core_ast.specs.Trees.{expression_of}
@@ -16,6 +17,10 @@ use Rattle.core_procedures.specs.declared.procedure.Procedure.{Procedure}
 abbrev pub names_in : List (Bor (List ℕ)) → List (List ℕ)
 names_in [] = []
 names_in (x ∷ xs) = x.now ∷ names_in xs
+
+-- slots with this one behind them, unless it is one of them
+abbrev pub with_first : ℕ → List ℕ → List ℕ
+with_first i is = if list_any (λ j. i == j) is then is else is ++ i ∷ []
 
 abbrev pub slot_in : Slot → List ℕ × ℕ
 slot_in v = (v.name.now, v.slot)

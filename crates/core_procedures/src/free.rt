@@ -4,10 +4,10 @@ ghost use Rattle.std.specs.Prelude.{◌≡◌, ◌++◌, ◌∷◌, [], map, not
 ghost use Rattle.std.specs.List.{filter, list_any};
 ghost use Rattle.core_ast.specs.Names.{is_named};
 ghost use Rattle.core_ast.specs.Trees.{expression_of, expressions, clause_of, clauses, definition_of, definitions};
-ghost use Rattle.core_meaning.specs.Scopes.{occurring, occurring_in_all, occurring_in_clauses, occurring_in_definitions, hiding, hiding_functions, function_names, names};
+ghost use Rattle.core_meaning.specs.Scopes.{occurring, occurring_in_all, occurring_in_clauses, occurring_in_definitions, hiding, hiding_functions, slot_of, slot_if_any, known_of, slots_if_known, function_names, names};
 ghost use Rattle.core_procedures.specs.Shown.{names_in, slot_in, function_in, scope_in};
 
-use crate::scope::{Function, Scope, Slot, is_named, names, names_of_patterns, same_variable};
+use crate::scope::{Function, Scope, Slot, is_named, names, names_bound_by, same_variable};
 use core_ast::{Clause, Expr, FunDef, FunName, Node, Var, VariableName};
 use std::alloc::{AllocError, Global};
 
@@ -47,11 +47,26 @@ fn without<'a>(
 {
     let mut kept = Vec::new(alloc);
     for v in variables {
-        if !is_among(v.name, xs) {
-            kept.push(*v)?;
-        }
+        keep_variable(xs, *v, &mut kept)?;
     }
     Ok(kept)
+}
+
+// Puts a variable behind those that are kept, unless it has one of these names.
+#[tactic(auto, using(crate::proofs::Referred::keeping))]
+fn keep_variable<'a>(
+    xs: &[&VariableName],
+    v: Slot<'a>,
+    kept: &mut Vec<Slot<'a>>,
+) -> Result<(), AllocError>
+    ensures { OnOk result (map slot_in kept.new.items ≡ map slot_in kept.old.items ++ filter (λ v. not (list_any (λ x. bytes_eq x v.0) (names_in xs.now))) (slot_in v.entry ∷ [])) }
+{
+    if is_among(v.name, xs) {
+        Ok(())
+    } else {
+        kept.push(v)?;
+        Ok(())
+    }
 }
 
 /// The functions in scope without those of these names.
@@ -65,11 +80,26 @@ fn without_functions<'a>(
 {
     let mut kept = Vec::new(alloc);
     for f in functions {
-        if !is_defined(f.name, defs) {
-            kept.push(*f)?;
-        }
+        keep_function(defs, *f, &mut kept)?;
     }
     Ok(kept)
+}
+
+// Puts a function behind those that are kept, unless one of these has its name.
+#[tactic(auto, using(crate::proofs::Referred::keeping))]
+fn keep_function<'a>(
+    defs: &[FunDef],
+    f: Function<'a>,
+    kept: &mut Vec<Function<'a>>,
+) -> Result<(), AllocError>
+    ensures { OnOk result (map function_in kept.new.items ≡ map function_in kept.old.items ++ filter (λ g. not (list_any (λ f. is_named f g.0) (function_names (definitions (map definition_of defs.now))))) (function_in f.entry ∷ [])) }
+{
+    if is_defined(f.name, defs) {
+        Ok(())
+    } else {
+        kept.push(f)?;
+        Ok(())
+    }
 }
 
 /// Puts the slots of the variables of the scope that occur free in an expression behind those that were found, in the order of
@@ -86,18 +116,8 @@ pub fn occurring(
 {
     match &e.node {
         Node::Int(_) | Node::Atom(_) | Node::Nil => Ok(()),
-        Node::Var(x) => {
-            if let Some(slot) = s.slot_of(x) {
-                found.push(slot)?;
-            }
-            Ok(())
-        }
-        Node::Name(f) => {
-            if let Some(known) = s.known_of(f) {
-                found.extend_from_slice(known.captured)?;
-            }
-            Ok(())
-        }
+        Node::Var(x) => variable(s, x, found),
+        Node::Name(f) => function(s, f, found),
         Node::Tuple(parts) => in_all(alloc, s, parts.as_slice(), found),
         Node::List(parts, tail) => {
             in_all(alloc, s, parts.as_slice(), found)?;
@@ -119,15 +139,7 @@ pub fn occurring(
             fun.body.get(),
             found,
         ),
-        Node::Letrec(defs, body) => {
-            let kept = without_functions(alloc, defs.as_slice(), s.functions)?;
-            let inner = Scope {
-                variables: s.variables,
-                functions: kept.as_slice(),
-            };
-            in_definitions(alloc, inner, defs.as_slice(), found)?;
-            occurring(alloc, inner, body.get(), found)
-        }
+        Node::Letrec(defs, body) => in_letrec(alloc, s, defs.as_slice(), body.get(), found),
         Node::Apply(fun, args) => {
             occurring(alloc, s, fun.get(), found)?;
             in_all(alloc, s, args.as_slice(), found)
@@ -145,6 +157,55 @@ pub fn occurring(
         }
         Node::Catch(part) => occurring(alloc, s, part.get(), found),
     }
+}
+
+// The slot of a variable.
+#[tactic(auto, using(crate::proofs::Referred::levels))]
+fn variable(s: Scope<'_>, x: &VariableName, found: &mut Vec<u64>) -> Result<(), AllocError>
+    ensures { OnOk result (found.new.items ≡ found.old.items ++ slot_if_any (slot_of x.now (scope_in s.entry))) }
+{
+    match s.slot_of(x) {
+        Some(slot) => {
+            found.push(slot)?;
+            Ok(())
+        }
+        None => Ok(()),
+    }
+}
+
+// The slots that a function's name stands for.
+#[tactic(auto, using(crate::proofs::Referred::levels))]
+fn function(s: Scope<'_>, f: &FunName, found: &mut Vec<u64>) -> Result<(), AllocError>
+    ensures { OnOk result (found.new.items ≡ found.old.items ++ slots_if_known (known_of f.now (scope_in s.entry))) }
+{
+    match s.known_of(f) {
+        Some(known) => {
+            found.extend_from_slice(known.captured)?;
+            Ok(())
+        }
+        None => Ok(()),
+    }
+}
+
+// The free ones in a `letrec`.
+#[cycle(occurring)]
+#[tactic(auto, using(crate::proofs::Referred::levels))]
+fn in_letrec(
+    alloc: Global,
+    s: Scope<'_>,
+    defs: &[FunDef],
+    body: &Expr,
+    found: &mut Vec<u64>,
+) -> Result<(), AllocError>
+    ensures { OnOk result (found.new.items ≡ found.old.items ++ (occurring_in_definitions (hiding_functions (function_names (definitions (map definition_of defs.now))) (scope_in s.entry)) (definitions (map definition_of defs.now)) ++ occurring (hiding_functions (function_names (definitions (map definition_of defs.now))) (scope_in s.entry)) (expression_of body.now))) }
+{
+    let kept = without_functions(alloc, defs, s.functions)?;
+    let inner = Scope {
+        variables: s.variables,
+        functions: kept.as_slice(),
+    };
+    in_definitions(alloc, inner, defs, found)?;
+    occurring(alloc, inner, body, found)
 }
 
 // The free ones in each of these.
@@ -212,8 +273,7 @@ fn in_clause(
 ) -> Result<(), AllocError>
     ensures { OnOk result (found.new.items ≡ found.old.items ++ occurring_in_clauses (scope_in s.entry) (clauses (clause_of c.now ∷ []))) }
 {
-    let mut hidden = Vec::new(alloc);
-    names_of_patterns(c.patterns.as_slice(), &mut hidden)?;
+    let hidden = names_bound_by(alloc, c.patterns.as_slice())?;
     let kept = without(alloc, hidden.as_slice(), s.variables)?;
     let inner = Scope {
         variables: kept.as_slice(),

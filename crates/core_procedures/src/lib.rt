@@ -30,5 +30,5 @@ pub use nodes::{expression_nodes, frame, pattern_nodes, patterns_nodes};
 pub use procedure::Procedure;
 pub use procedures::module_procedures;
 pub use scope::{
-    Function, Known, Scope, Slot, binding, is_named, names, names_of_patterns, same_variable,
+    Function, Known, Scope, Slot, binding, is_named, names, names_bound_by, same_variable,
 };

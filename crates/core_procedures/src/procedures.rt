@@ -2,17 +2,20 @@
 
 ghost use Rattle.std.specs.Prelude.{◌≡◌, ◌+◌, ◌++◌, ◌∷◌, [], map, length, IfOk, OnOk};
 ghost use Rattle.core_ast.specs.Trees.{expression_of, expressions, clause_of, clauses, function_of, definition_of, definitions};
-ghost use Rattle.core_meaning.specs.Procedures.{procedures, procedures_in_all, procedures_in_clauses, procedures_of_group, fun_at, module_scope, own_procedures, inner_procedures, module_procedures};
+ghost use Rattle.core_meaning.specs.Procedures.{procedures, procedures_in_all, procedures_in_clauses, procedures_of_group, fun_at, module_scope, known_from, own_procedures, inner_procedures, module_procedures};
 ghost use Rattle.core_meaning.specs.Scopes.{names, binding};
-ghost use Rattle.core_procedures.specs.Shown.{scope_in, procedures_in, procedure_of, procedures_of_fun, procedures_of_letrec};
+ghost use Rattle.core_procedures.specs.Shown.{scope_in, function_in, procedures_in, procedure_of, procedures_of_fun, procedures_of_letrec};
 
-use crate::captured::{captured_by_fun, captured_by_group, carried, group_scope, letrec_scope};
+use crate::captured::{
+    captured_by_fun, captured_by_group, carried, defined_function, group_scope, letrec_scope,
+    next_number,
+};
 use crate::count::{
     add, funs, funs_in_all, funs_in_clause, funs_in_definition, funs_in_definitions,
 };
 use crate::nodes::frame;
 use crate::procedure::Procedure;
-use crate::scope::{Function, Known, Scope, binding, names, names_of_patterns};
+use crate::scope::{Function, Scope, binding, names, names_bound_by};
 use bumpalo::Bump;
 use core_ast::{Clause, Expr, Fun, FunDef, Node, Var};
 use std::alloc::{AllocError, Global};
@@ -28,6 +31,7 @@ struct Table<'a> {
 /// All functions of a module with these definitions, in the order of their numbers: the module's own first, in the order of the
 /// text, and then the funs and the functions of each `letrec`. An error where there is no memory for them, or where a count passes
 /// 2^64 - 1.
+#[tactic(auto, using(crate::proofs::Found::levels))]
 pub fn module_procedures<'a>(
     alloc: Global,
     bump: &'a Bump,
@@ -52,6 +56,7 @@ pub fn module_procedures<'a>(
 }
 
 // The scope of a module.
+#[tactic(auto, using(crate::proofs::Found::levels))]
 fn module_scope<'a>(
     alloc: Global,
     bump: &'a Bump,
@@ -59,25 +64,30 @@ fn module_scope<'a>(
 ) -> Result<Scope<'a>, AllocError>
     ensures { IfOk result (λ t. scope_in t ≡ module_scope (definitions (map definition_of defs.now))) }
 {
-    let mut functions = Vec::new(alloc);
-    for (i, def) in defs.iter().enumerate() {
-        let known = Known {
-            number: i as u64,
-            captured: &[],
-        };
-        functions.push(Function {
-            name: &def.name,
-            known,
-        })?;
-    }
+    let functions = known_from(alloc, defs)?;
     Ok(Scope {
         variables: &[],
         functions: bump.try_alloc_slice_copy(functions.as_slice())?,
     })
 }
 
+// The functions of a module by their names.
+#[tactic(auto, using(crate::proofs::Found::levels))]
+fn known_from<'a>(alloc: Global, defs: &'a [FunDef]) -> Result<Vec<Function<'a>>, AllocError>
+    ensures { IfOk result (λ found. map function_in found.items ≡ known_from 0 (definitions (map definition_of defs.now))) }
+{
+    let mut found = Vec::new(alloc);
+    let mut number = 0;
+    for def in defs {
+        found.push(defined_function(def, number, &[]))?;
+        number = add(number, 1)?;
+    }
+    Ok(found)
+}
+
 impl<'a> Table<'a> {
     // The module's own functions.
+    #[tactic(auto, using(crate::proofs::Found::levels))]
     fn own(&mut self, scope: Scope<'a>, defs: &'a [FunDef]) -> Result<(), AllocError>
         ensures { OnOk result (procedures_in self.new.found.items ≡ procedures_in self.old.found.items ++ own_procedures (scope_in scope.entry) (length defs.now) (definitions (map definition_of defs.now))) }
     {
@@ -90,6 +100,7 @@ impl<'a> Table<'a> {
     }
 
     // The funs in the module's own functions.
+    #[tactic(auto, using(crate::proofs::Found::levels))]
     fn inner(&mut self, scope: Scope<'a>, defs: &'a [FunDef]) -> Result<(), AllocError>
         ensures { OnOk result (procedures_in self.new.found.items ≡ procedures_in self.old.found.items ++ inner_procedures (scope_in scope.entry) (length defs.now) (definitions (map definition_of defs.now))) }
     {
@@ -102,6 +113,7 @@ impl<'a> Table<'a> {
         Ok(())
     }
 
+    #[tactic(auto, using(crate::proofs::Found::levels))]
     fn push(
         &mut self,
         fun: &'a Fun,
@@ -241,8 +253,7 @@ impl<'a> Table<'a> {
     fn clause(&mut self, s: Scope<'a>, slots: u64, n: u64, c: &'a Clause) -> Result<(), AllocError>
         ensures { OnOk result (procedures_in self.new.found.items ≡ procedures_in self.old.found.items ++ procedures_in_clauses (scope_in s.entry) slots n (clauses (clause_of c.now ∷ []))) }
     {
-        let mut found = Vec::new(self.alloc);
-        names_of_patterns(c.patterns.as_slice(), &mut found)?;
+        let found = names_bound_by(self.alloc, c.patterns.as_slice())?;
         let scope = binding(self.bump, slots, found.as_slice(), s)?;
         let slots = add(slots, found.len() as u64)?;
         self.expression(scope, slots, n, &c.guard)?;
@@ -276,7 +287,7 @@ impl<'a> Table<'a> {
         let mut n = n;
         for def in defs {
             self.definition(scope, captured.len() as u64, n, def)?;
-            n = add(add(n, 1)?, funs_in_definition(def)?)?;
+            n = next_number(n, def)?;
         }
         Ok(())
     }

@@ -115,14 +115,24 @@ pub fn binding<'a>(
     })
 }
 
-/// Puts the names of a pattern's variables behind those that were found, in the order of the text. An error where there is no
-/// memory for them.
+/// The names of the variables that patterns bind, in the order of the text. An error where there is no memory for them.
+#[tactic(auto, using(crate::proofs::Referred::pattern_levels))]
+pub fn names_bound_by<'a>(
+    alloc: Global,
+    ps: &'a [Pattern],
+) -> Result<Vec<&'a VariableName>, AllocError>
+    ensures { IfOk result (λ found. names_in found.items ≡ bound_by (patterns (map pattern_of ps.now))) }
+{
+    let mut found = Vec::new(alloc);
+    names_of_patterns(ps, &mut found)?;
+    Ok(found)
+}
+
+// Puts the names of a pattern's variables behind those that were found, in the order of the text. An error where there is no
+// memory for them.
 #[cycle(pattern_names)]
 #[tactic(auto, using(crate::proofs::Referred::pattern_levels))]
-pub fn pattern_names<'a>(
-    p: &'a Pattern,
-    found: &mut Vec<&'a VariableName>,
-) -> Result<(), AllocError>
+fn pattern_names<'a>(p: &'a Pattern, found: &mut Vec<&'a VariableName>) -> Result<(), AllocError>
     ensures { OnOk result (names_in found.new.items ≡ names_in found.old.items ++ names (variables_of (pattern_of p.now))) }
 {
     match &p.node {
@@ -143,10 +153,10 @@ pub fn pattern_names<'a>(
     }
 }
 
-/// Puts the names of these patterns' variables behind those that were found. An error where there is no memory for them.
+// Puts the names of these patterns' variables behind those that were found. An error where there is no memory for them.
 #[cycle(pattern_names)]
 #[tactic(auto, using(crate::proofs::Referred::pattern_levels))]
-pub fn names_of_patterns<'a>(
+fn names_of_patterns<'a>(
     ps: &'a [Pattern],
     found: &mut Vec<&'a VariableName>,
 ) -> Result<(), AllocError>
