@@ -139,7 +139,10 @@ pub fn occurring(
             fun.body.get(),
             found,
         ),
-        Node::Letrec(defs, body) => in_letrec(alloc, s, defs.as_slice(), body.get(), found),
+        Node::Letrec(defs, body) => {
+            occurring_in_group(alloc, s, defs.as_slice(), found)?;
+            in_letrec_body(alloc, s, body.get(), defs.as_slice(), found)
+        }
         Node::Apply(fun, args) => {
             occurring(alloc, s, fun.get(), found)?;
             in_all(alloc, s, args.as_slice(), found)
@@ -187,24 +190,23 @@ fn function(s: Scope<'_>, f: &FunName, found: &mut Vec<u64>) -> Result<(), Alloc
     }
 }
 
-// The free ones in a `letrec`.
+// The free ones in the body of a `letrec`.
 #[cycle(occurring)]
 #[tactic(auto, using(crate::proofs::Referred::levels))]
-fn in_letrec(
+fn in_letrec_body(
     alloc: Global,
     s: Scope<'_>,
-    defs: &[FunDef],
     body: &Expr,
+    defs: &[FunDef],
     found: &mut Vec<u64>,
 ) -> Result<(), AllocError>
-    ensures { OnOk result (found.new.items ≡ found.old.items ++ (occurring_in_definitions (hiding_functions (function_names (definitions (map definition_of defs.now))) (scope_in s.entry)) (definitions (map definition_of defs.now)) ++ occurring (hiding_functions (function_names (definitions (map definition_of defs.now))) (scope_in s.entry)) (expression_of body.now))) }
+    ensures { OnOk result (found.new.items ≡ found.old.items ++ occurring (hiding_functions (function_names (definitions (map definition_of defs.now))) (scope_in s.entry)) (expression_of body.now)) }
 {
     let kept = without_functions(alloc, defs, s.functions)?;
     let inner = Scope {
         variables: s.variables,
         functions: kept.as_slice(),
     };
-    in_definitions(alloc, inner, defs, found)?;
     occurring(alloc, inner, body, found)
 }
 
@@ -280,11 +282,13 @@ fn in_clause(
         functions: s.functions,
     };
     occurring(alloc, inner, &c.guard, found)?;
-    occurring(alloc, inner, &c.body, found)
+    occurring(alloc, inner, &c.body, found)?;
+    Ok(())
 }
 
 /// Puts the slots of the variables of the scope that occur free in the functions of a `letrec` behind those that were found, where
 /// the names of these functions hide those of the scope. An error where there is no memory for them.
+#[cycle(occurring)]
 #[tactic(auto, using(crate::proofs::Referred::levels))]
 pub fn occurring_in_group(
     alloc: Global,
