@@ -3,7 +3,7 @@ use Rattle.std.proofs.Common.{◌≡◌, ℕ, ◌+◌, ◌<◌, List, [], ◌∷
 use Rattle.std.specs.Prelude.{Bool, ◌||◌, not, bytes_eq}
 use Rattle.std.specs.List.{list_any, filter}
 use Rattle.core_ast.specs.Names.{variables_of, variables_of_all}
-use Rattle.core_ast.specs.Trees.{expression_of, clause_of, clauses, definition_of, definitions, pattern_of, patterns, Pattern, Patterns, no_pattern, and_pattern}
+use Rattle.core_ast.specs.Trees.{expression_of, clause_of, clauses, definition_of, definitions, pattern_of, patterns, Pattern, Patterns, and_pattern}
 use Rattle.core_ast.specs.declared.tree.Clause.{Clause}
 use Rattle.core_ast.specs.declared.tree.FunDef.{FunDef, out-FunDef}
 use Rattle.core_ast.specs.declared.tree.FunName.{FunName}

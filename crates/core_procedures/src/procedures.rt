@@ -3,7 +3,7 @@
 ghost use Rattle.std.specs.Prelude.{◌≡◌, ◌+◌, ◌++◌, ◌∷◌, [], map, length, IfOk, OnOk};
 ghost use Rattle.core_ast.specs.Trees.{expression_of, expressions, clause_of, clauses, function_of, definition_of, definitions};
 ghost use Rattle.core_meaning.specs.Procedures.{procedures, procedures_in_all, procedures_in_clauses, procedures_of_group, fun_at, module_scope, known_from, own_procedures, inner_procedures, module_procedures};
-ghost use Rattle.core_meaning.specs.Scopes.{names, binding};
+ghost use Rattle.core_meaning.specs.Scopes.{names, binding, captured_by_fun};
 ghost use Rattle.core_procedures.specs.Shown.{scope_in, function_in, procedures_in, procedure_of, procedures_of_fun, procedures_of_letrec};
 
 use crate::captured::{
@@ -45,8 +45,9 @@ pub fn module_procedures<'a>(
         bump,
         found: Vec::new(alloc),
     };
-    table.own(scope, defs)?;
-    table.inner(scope, defs)?;
+    let first = defs.len() as u64;
+    table.own(scope, first, defs)?;
+    table.inner(scope, first, defs)?;
     let Table {
         alloc: _,
         bump: _,
@@ -86,30 +87,46 @@ fn known_from<'a>(alloc: Global, defs: &'a [FunDef]) -> Result<Vec<Function<'a>>
 }
 
 impl<'a> Table<'a> {
-    // The module's own functions.
+    // The module's own functions, where n is the number of the first fun in them.
     #[tactic(auto, using(crate::proofs::Found::levels))]
-    fn own(&mut self, scope: Scope<'a>, defs: &'a [FunDef]) -> Result<(), AllocError>
-        ensures { OnOk result (procedures_in self.new.found.items ≡ procedures_in self.old.found.items ++ own_procedures (scope_in scope.entry) (length defs.now) (definitions (map definition_of defs.now))) }
+    fn own(&mut self, scope: Scope<'a>, n: u64, defs: &'a [FunDef]) -> Result<(), AllocError>
+        ensures { OnOk result (procedures_in self.new.found.items ≡ procedures_in self.old.found.items ++ own_procedures (scope_in scope.entry) n (definitions (map definition_of defs.now))) }
     {
-        let mut first = defs.len() as u64;
+        let mut first = n;
         for def in defs {
-            self.push(&def.fun, scope, 0, first)?;
+            self.own_one(scope, first, def)?;
             first = add(first, funs_in_definition(def)?)?;
         }
         Ok(())
     }
 
-    // The funs in the module's own functions.
+    // One of the module's own functions.
     #[tactic(auto, using(crate::proofs::Found::levels))]
-    fn inner(&mut self, scope: Scope<'a>, defs: &'a [FunDef]) -> Result<(), AllocError>
-        ensures { OnOk result (procedures_in self.new.found.items ≡ procedures_in self.old.found.items ++ inner_procedures (scope_in scope.entry) (length defs.now) (definitions (map definition_of defs.now))) }
+    fn own_one(&mut self, scope: Scope<'a>, n: u64, def: &'a FunDef) -> Result<(), AllocError>
+        ensures { OnOk result (procedures_in self.new.found.items ≡ procedures_in self.old.found.items ++ own_procedures (scope_in scope.entry) n (definitions (definition_of def.now ∷ []))) }
     {
-        let mut first = defs.len() as u64;
+        self.push(&def.fun, scope, 0, n)
+    }
+
+    // The funs in the module's own functions, where n is the number of the first.
+    #[tactic(auto, using(crate::proofs::Found::levels))]
+    fn inner(&mut self, scope: Scope<'a>, n: u64, defs: &'a [FunDef]) -> Result<(), AllocError>
+        ensures { OnOk result (procedures_in self.new.found.items ≡ procedures_in self.old.found.items ++ inner_procedures (scope_in scope.entry) n (definitions (map definition_of defs.now))) }
+    {
+        let mut first = n;
         for def in defs {
-            let parameters = def.fun.params.as_slice();
-            self.bound(scope, 0, parameters, first, def.fun.body.get())?;
+            self.inner_one(scope, first, def)?;
             first = add(first, funs_in_definition(def)?)?;
         }
+        Ok(())
+    }
+
+    // The funs in one of the module's own functions.
+    #[tactic(auto, using(crate::proofs::Found::levels))]
+    fn inner_one(&mut self, scope: Scope<'a>, n: u64, def: &'a FunDef) -> Result<(), AllocError>
+        ensures { OnOk result (procedures_in self.new.found.items ≡ procedures_in self.old.found.items ++ inner_procedures (scope_in scope.entry) n (definitions (definition_of def.now ∷ []))) }
+    {
+        self.inside(scope, 0, n, &def.fun)?;
         Ok(())
     }
 
@@ -203,10 +220,10 @@ impl<'a> Table<'a> {
     fn each(&mut self, s: Scope<'a>, slots: u64, n: u64, list: &'a [Expr]) -> Result<(), AllocError>
         ensures { OnOk result (procedures_in self.new.found.items ≡ procedures_in self.old.found.items ++ procedures_in_all (scope_in s.entry) slots n (expressions (map expression_of list.now))) }
     {
-        let mut n = n;
+        let mut number = n;
         for e in list {
-            self.expression(s, slots, n, e)?;
-            n = add(n, funs(e)?)?;
+            self.expression(s, slots, number, e)?;
+            number = add(number, funs(e)?)?;
         }
         Ok(())
     }
@@ -240,10 +257,10 @@ impl<'a> Table<'a> {
     ) -> Result<(), AllocError>
         ensures { OnOk result (procedures_in self.new.found.items ≡ procedures_in self.old.found.items ++ procedures_in_clauses (scope_in s.entry) slots n (clauses (map clause_of list.now))) }
     {
-        let mut n = n;
+        let mut number = n;
         for c in list {
-            self.clause(s, slots, n, c)?;
-            n = add(n, funs_in_clause(c)?)?;
+            self.clause(s, slots, number, c)?;
+            number = add(number, funs_in_clause(c)?)?;
         }
         Ok(())
     }
@@ -255,10 +272,20 @@ impl<'a> Table<'a> {
     {
         let found = names_bound_by(self.alloc, c.patterns.as_slice())?;
         let scope = binding(self.bump, slots, found.as_slice(), s)?;
-        let slots = add(slots, found.len() as u64)?;
-        self.expression(scope, slots, n, &c.guard)?;
-        let n = add(n, funs(&c.guard)?)?;
-        self.expression(scope, slots, n, &c.body)
+        let inner = add(slots, found.len() as u64)?;
+        self.expression(scope, inner, n, &c.guard)?;
+        let behind = add(n, funs(&c.guard)?)?;
+        self.expression(scope, inner, behind, &c.body)?;
+        Ok(())
+    }
+
+    // The functions in the body of a fun or of a definition, in the scope that it captured.
+    #[cycle(expression)]
+    #[tactic(auto, using(crate::proofs::Found::levels))]
+    fn inside(&mut self, s: Scope<'a>, slots: u64, n: u64, fun: &'a Fun) -> Result<(), AllocError>
+        ensures { OnOk result (procedures_in self.new.found.items ≡ procedures_in self.old.found.items ++ procedures (binding slots (names (function_of fun.now).parameters) (scope_in s.entry)) (slots + length (function_of fun.now).parameters) n (function_of fun.now).body) }
+    {
+        self.bound(s, slots, fun.params.as_slice(), n, fun.body.get())
     }
 
     // A fun, before those in its body.
@@ -267,13 +294,13 @@ impl<'a> Table<'a> {
     fn lambda(&mut self, s: Scope<'a>, n: u64, fun: &'a Fun) -> Result<(), AllocError>
         ensures { OnOk result (procedures_in self.new.found.items ≡ procedures_in self.old.found.items ++ procedures_of_fun (scope_in s.entry) n (function_of fun.now)) }
     {
-        let parameters = fun.params.as_slice();
-        let captured = captured_by_fun(self.alloc, s, parameters, fun.body.get())?;
+        let captured = captured_by(self.alloc, s, fun)?;
         let scope = carried(self.alloc, self.bump, captured.as_slice(), s)?;
         let count = captured.len() as u64;
         let first = add(n, 1)?;
         self.push(fun, scope, count, first)?;
-        self.bound(scope, count, parameters, first, fun.body.get())
+        self.inside(scope, count, first, fun)?;
+        Ok(())
     }
 
     // The functions of a `letrec`, each before those in its body.
@@ -284,10 +311,24 @@ impl<'a> Table<'a> {
     {
         let captured = captured_by_group(self.alloc, s, defs)?;
         let scope = group_scope(self.alloc, self.bump, n, defs, s)?;
-        let mut n = n;
+        self.definitions(scope, captured.len() as u64, n, defs)
+    }
+
+    #[cycle(expression)]
+    #[tactic(auto, using(crate::proofs::Found::levels))]
+    fn definitions(
+        &mut self,
+        s: Scope<'a>,
+        captured: u64,
+        n: u64,
+        defs: &'a [FunDef],
+    ) -> Result<(), AllocError>
+        ensures { OnOk result (procedures_in self.new.found.items ≡ procedures_in self.old.found.items ++ procedures_of_group captured (scope_in s.entry) n (definitions (map definition_of defs.now))) }
+    {
+        let mut number = n;
         for def in defs {
-            self.definition(scope, captured.len() as u64, n, def)?;
-            n = next_number(n, def)?;
+            self.definition(s, captured, number, def)?;
+            number = next_number(number, def)?;
         }
         Ok(())
     }
@@ -305,7 +346,14 @@ impl<'a> Table<'a> {
     {
         let first = add(n, 1)?;
         self.push(&def.fun, s, captured, first)?;
-        let parameters = def.fun.params.as_slice();
-        self.bound(s, captured, parameters, first, def.fun.body.get())
+        self.inside(s, captured, first, &def.fun)
     }
+}
+
+// What a fun captures.
+#[tactic(auto, using(crate::proofs::Found::levels))]
+fn captured_by(alloc: Global, s: Scope<'_>, fun: &Fun) -> Result<Vec<u64>, AllocError>
+    ensures { IfOk result (λ found. found.items ≡ captured_by_fun (scope_in s.entry) (names (function_of fun.now).parameters) (function_of fun.now).body) }
+{
+    captured_by_fun(alloc, s, fun.params.as_slice(), fun.body.get())
 }

@@ -1,5 +1,5 @@
 use Rattle.std.proofs.Common.{◌≡◌, ◌+◌, map, drop}
-use Rattle.core_ast.specs.Trees.{pattern_of, patterns, expression_of, expressions, clause_of, clauses, definition_of, definitions}
+use Rattle.core_ast.specs.Trees.{expression_of, expressions, clause_of, clauses, definition_of, definitions}
 use Rattle.core_meaning.specs.Scopes.{funs_in_all, funs_in_clauses, funs_in_definitions}
 use Rattle.core_procedures.proofs.count.+funs.Given as goal
 

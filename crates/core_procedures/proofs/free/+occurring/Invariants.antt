@@ -1,5 +1,5 @@
 use Rattle.std.proofs.Common.{◌≡◌, ◌++◌, map, drop}
-use Rattle.core_ast.specs.Trees.{pattern_of, patterns, expression_of, expressions, clause_of, clauses, definition_of, definitions}
+use Rattle.core_ast.specs.Trees.{expression_of, expressions, clause_of, clauses, definition_of, definitions}
 use Rattle.core_meaning.specs.Scopes.{occurring_in_all, occurring_in_clauses, occurring_in_definitions}
 use Rattle.core_procedures.specs.Shown.{scope_in}
 use Rattle.core_procedures.proofs.free.+occurring.Given as goal

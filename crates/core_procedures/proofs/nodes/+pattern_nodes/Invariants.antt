@@ -1,5 +1,5 @@
 use Rattle.std.proofs.Common.{◌≡◌, ◌+◌, map, drop}
-use Rattle.core_ast.specs.Trees.{pattern_of, patterns, expression_of, expressions, clause_of, clauses, definition_of, definitions}
+use Rattle.core_ast.specs.Trees.{pattern_of, patterns}
 use Rattle.core_ast.specs.Nodes.{patterns_nodes}
 use Rattle.core_procedures.proofs.nodes.+pattern_nodes.Given as goal
 

@@ -1,5 +1,5 @@
 use Rattle.std.proofs.Common.{◌≡◌, ◌++◌, map, drop}
-use Rattle.core_ast.specs.Trees.{pattern_of, patterns, expression_of, expressions, clause_of, clauses, definition_of, definitions}
+use Rattle.core_ast.specs.Trees.{pattern_of, patterns}
 use Rattle.core_meaning.specs.Scopes.{bound_by}
 use Rattle.core_procedures.specs.Shown.{names_in}
 use Rattle.core_procedures.proofs.scope.+pattern_names.Given as goal

@@ -1,4 +1,4 @@
-use Rattle.std.proofs.Common.{◌≡◌, ◌++◌, map, drop}
+use Rattle.std.proofs.Common.{◌≡◌, ◌++◌, drop}
 use Rattle.core_meaning.specs.Scopes.{names}
 use Rattle.core_procedures.specs.Shown.{names_in}
 use Rattle.core_procedures.proofs.scope.names.Given as goal
