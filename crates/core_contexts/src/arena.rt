@@ -1,0 +1,24 @@
+// What the values of runs stand in.
+
+use bumpalo::Bump;
+use core_values::Atoms;
+use std::alloc::{AllocError, Global};
+
+/// What the values of runs stand in: the memory of their parts, and the atoms that runs make themselves.
+#[derive(Drop)]
+pub struct Arena {
+    pub alloc: Global,
+    pub bump: Bump,
+    pub atoms: Atoms,
+}
+
+impl Arena {
+    /// An empty one. An error where there is no memory for it.
+    pub fn new(alloc: Global) -> Result<Arena, AllocError> {
+        Ok(Arena {
+            alloc,
+            bump: Bump::new(alloc),
+            atoms: Atoms::new(alloc)?,
+        })
+    }
+}

@@ -1,0 +1,5 @@
+pub mod Referred
+pub mod Found
+pub mod Firsts
+pub mod Positions
+pub mod Numbered

@@ -1,0 +1,2 @@
+-- What contracts say of scopes and functions.
+pub mod Shown
