@@ -1,5 +1,5 @@
 -- The places of expressions that those of the code stand for.
-use Rattle.std.specs.Prelude.{ℕ, List, ◌×◌}
+use Rattle.std.specs.Prelude.{ℕ, List}
 use denote.Bor.{Bor}
 use Rattle.hipe_terms.specs.Terms.{Term}
 use Rattle.core_meaning.specs.Meaning as Meant

@@ -4,7 +4,7 @@ use Rattle.core_ast.specs.Trees.{definition_of, definitions}
 use Rattle.core_meaning.specs.Scopes.{function_names}
 use Rattle.core_meaning.specs.Procedures as Meant
 use Rattle.core_procedures.specs.Shown.{procedures_in}
-use Rattle.core_contexts.specs.declared.table.Program.{Program}
+use Rattle.core_contexts.specs.declared.program.Program.{Program}
 
 abbrev pub program_in : Program → Meant.Program
 program_in p = record { name = p.name.now; exports = map (λ e. e.0) p.exports.now; own = function_names (definitions (map definition_of p.defs.now)); procedures = procedures_in p.procedures.now }

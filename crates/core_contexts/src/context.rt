@@ -94,6 +94,7 @@ impl<'a> Context<'a> {
     }
 
     /// The values in these slots, or nothing where a slot has none. An error where there is no memory for them.
+    #[tactic(auto, using(crate::proofs::Slots::slots))]
     pub fn values_in(
         self,
         arena: &'a Arena,

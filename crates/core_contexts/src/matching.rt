@@ -2,10 +2,10 @@
 
 ghost use Rattle.std.specs.Prelude.{◌≡◌, map, option_map, IfOk};
 ghost use Rattle.core_ast.specs.Trees.{pattern_of, patterns};
-ghost use Rattle.core_meaning.specs.Matching.{matched, matched_all, matched_cells, parts_of, is_this_integer, is_this_atom, is_nil};
+ghost use Rattle.core_meaning.specs.Matching.{Match, matched, matched_all, matched_cells, parts_of, is_this_integer, is_this_atom, is_nil};
 ghost use Rattle.core_values.specs.Values.{term_in, terms_in};
-ghost use Rattle.hipe_terms.specs.Terms.{terms};
-ghost use Rattle.core_contexts.specs.Matches.{after, where_matched};
+ghost use Rattle.hipe_terms.specs.Terms.{Term, terms};
+ghost use Rattle.core_contexts.specs.Matches.{after, where_matched, go_on};
 
 use core_ast::{PatNode, Pattern};
 use core_values::{Shape, Value, same_atom, shape_of};
@@ -14,6 +14,7 @@ use std::alloc::{AllocError, Global};
 
 /// What the variables of these patterns are bound to, in the order of the text, where there are as many patterns as values and each
 /// pattern matches its value. An error where there is no memory for it.
+#[tactic(auto, using(crate::proofs::Matched::whole))]
 pub fn matched_all<'a>(
     alloc: Global,
     ps: &[Pattern],
@@ -50,10 +51,14 @@ fn matches<'a>(p: &Pattern, v: Value<'a>, bound: &mut Vec<Value<'a>>) -> Result<
             Shape::Nil | Shape::Cons(_, _) => Ok(false),
             Shape::Fun(_, _) => Ok(false),
         },
-        PatNode::List(parts, tail) => list_matches(parts.as_slice(), tail.get(), v, bound),
+        PatNode::List(parts, tail) => match cells_match(parts.as_slice(), v, bound)? {
+            Some(rest) => matches(tail.get(), rest, bound),
+            None => Ok(false),
+        },
         PatNode::Alias(_, part) => {
             bound.push(v)?;
-            matches(part.get(), v, bound)
+            let found = matches(part.get(), v, bound)?;
+            Ok(found)
         }
     }
 }
@@ -79,31 +84,29 @@ fn each_matches<'a>(
     Ok(true)
 }
 
-// Whether a value is a list of as many elements as there are patterns and more, each pattern matches its element, and the pattern of
-// the tail matches the rest.
+// The rest of a list behind as many elements as there are patterns, where each pattern matches its element.
 #[cycle(matches)]
 #[tactic(auto, using(crate::proofs::Matched::levels))]
-fn list_matches<'a>(
+fn cells_match<'a>(
     ps: &[Pattern],
-    tail: &Pattern,
     v: Value<'a>,
     bound: &mut Vec<Value<'a>>,
-) -> Result<bool, AllocError>
-    ensures { IfOk result (λ b. where_matched b (terms_in bound.new.items) ≡ after (terms_in bound.old.items) (matched_cells (patterns (map pattern_of ps.now)) (matched (pattern_of tail.now)) (term_in v.entry))) }
+) -> Result<Option<Value<'a>>, AllocError>
+    ensures { IfOk result (λ rest. (tail : Term → Match) → go_on rest (terms_in bound.new.items) tail ≡ after (terms_in bound.old.items) (matched_cells (patterns (map pattern_of ps.now)) tail (term_in v.entry))) }
 {
     let mut rest = v;
     for p in ps {
         match parts_of(rest) {
             Some((head, next)) => {
                 if !matches(p, head, bound)? {
-                    return Ok(false);
+                    return Ok(None);
                 }
                 rest = next;
             }
-            None => return Ok(false),
+            None => return Ok(None),
         }
     }
-    matches(tail, rest, bound)
+    Ok(Some(rest))
 }
 
 // The head and the tail of a list.
