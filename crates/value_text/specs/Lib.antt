@@ -1,0 +1,3 @@
+-- What contracts say of the text of values.
+pub mod Named
+pub mod Pieces
