@@ -82,7 +82,7 @@ pub fn call(alloc: Global, text: &str) -> Answer {
 }
 
 // What is said of a token behind a text.
-enum Said {
+enum Verdict {
     GoesOn,
     NotInProfile,
     Syntax,
@@ -90,20 +90,20 @@ enum Said {
 }
 
 // What is said of a token that begins at this column of the first line, at the end of the text.
-fn said(alloc: Global, text: &[u8], col: u64) -> Said {
+fn said(alloc: Global, text: &[u8], col: u64) -> Verdict {
     match read(alloc, text) {
-        Ok(_) => Said::GoesOn,
+        Ok(_) => Verdict::GoesOn,
         Err(ReadRefusal::Syntax { at }) => {
             if at.col == col {
-                Said::Syntax
+                Verdict::Syntax
             } else if at.col == text.len() as u64 + 1 {
-                Said::GoesOn
+                Verdict::GoesOn
             } else {
-                Said::Other
+                Verdict::Other
             }
         }
-        Err(ReadRefusal::NotInProfile { at }) if at.col == col => Said::NotInProfile,
-        Err(_) => Said::Other,
+        Err(ReadRefusal::NotInProfile { at }) if at.col == col => Verdict::NotInProfile,
+        Err(_) => Verdict::Other,
     }
 }
 
@@ -122,17 +122,17 @@ pub fn after(alloc: Global, alphabet: &str, front: &str) -> Answer {
         let text = format!(in alloc; "{front} {token}")?;
         let before = format!(in alloc; "{front} ")?;
         match said(alloc, text.as_bytes(), before.len() as u64 + 1) {
-            Said::GoesOn => listed(&mut going_on, token)?,
-            Said::NotInProfile => listed(&mut lacking, token)?,
-            Said::Syntax => {}
-            Said::Other => listed(&mut other, token)?,
+            Verdict::GoesOn => listed(&mut going_on, token)?,
+            Verdict::NotInProfile => listed(&mut lacking, token)?,
+            Verdict::Syntax => {}
+            Verdict::Other => listed(&mut other, token)?,
         }
     }
     format!(in alloc; "goes on:{going_on}; not in the profile:{lacking}; other:{other}")
 }
 
 // A text again and again.
-fn repeated(alloc: Global, text: &mut String, part: &str, times: u64) -> Result<(), AllocError> {
+fn push_times(alloc: Global, text: &mut String, part: &str, times: u64) -> Result<(), AllocError> {
     for _ in 0..times {
         text.push_str(part)?;
     }
@@ -141,7 +141,7 @@ fn repeated(alloc: Global, text: &mut String, part: &str, times: u64) -> Result<
 
 // What a command of nested texts has.
 #[derive(Clone, Copy)]
-struct Nested<'a> {
+struct Repeated<'a> {
     times: u64,
     before: &'a str,
     open: &'a str,
@@ -151,7 +151,7 @@ struct Nested<'a> {
 }
 
 // The six fields of such a command, with `;` between them.
-fn nested_of(rest: &str) -> Option<Nested<'_>> {
+fn nested_of(rest: &str) -> Option<Repeated<'_>> {
     let (times, rest) = rest.split_once(";")?;
     let (before, rest) = rest.split_once(";")?;
     let (open, rest) = rest.split_once(";")?;
@@ -161,7 +161,7 @@ fn nested_of(rest: &str) -> Option<Nested<'_>> {
         Ok(times) => times,
         Err(_) => return None,
     };
-    Some(Nested {
+    Some(Repeated {
         times,
         before,
         open,
@@ -177,9 +177,9 @@ pub fn nested(alloc: Global, rest: &str) -> Answer {
         return String::from_str(alloc, "no texts");
     };
     let mut body = String::from_str(alloc, parts.before)?;
-    repeated(alloc, &mut body, parts.open, parts.times)?;
+    push_times(alloc, &mut body, parts.open, parts.times)?;
     body.push_str(parts.inside)?;
-    repeated(alloc, &mut body, parts.close, parts.times)?;
+    push_times(alloc, &mut body, parts.close, parts.times)?;
     body.push_str(parts.behind)?;
     match read(alloc, with_body(alloc, body.as_str())?.as_bytes()) {
         Ok(_) => String::from_str(alloc, "read"),
