@@ -11,7 +11,6 @@ use Rattle.core_sum.proofs.Forms.{there}
 use Rattle.core_sum.proofs.Modules.{none_unbuilt}
 
 abbrev body_of : Definitions → Option Sum
-
 body_of no_definition = None
 body_of (and_definition p f q xs body ds) = sum_in body
 
