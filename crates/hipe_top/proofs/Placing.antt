@@ -1,6 +1,6 @@
 -- The first word `module` of a text.
-use Rattle.std.proofs.Common.{◌≡◌, ◌⊎◌, inl, inr, ℕ, Bool, true, false, ◌&&◌, List, [], ◌∷◌, map, Option, Some, None, Result, Err, bytes_eq, refl, sym, ap, ◌∙◌, subst}
-use Rattle.std.specs.Prelude.{codes, nat_eq, nat_abs, ℤ, if◌then◌else◌, IfOk, OnErr}
+use Rattle.std.proofs.Common.{◌≡◌, ℕ, Bool, true, false, ◌&&◌, List, [], ◌∷◌, Some, None, Result, Err, bytes_eq, refl, ap, ◌∙◌, subst}
+use Rattle.std.specs.Prelude.{codes, nat_eq, nat_abs, ℤ, if◌then◌else◌}
 use Rattle.std.specs.Cmp.Lexicographic.{pointwise}
 use Rattle.std.proofs.lemmas.Slice.Eq.{bytes_eq-Decides}
 use Rattle.hipe_terms.specs.declared.place.Place.{Place}
@@ -17,9 +17,8 @@ use Rattle.core_grammar.specs.declared.terminal.Kind.{Kind}
 use Rattle.core_grammar.specs.declared.terminal.Mark.{Mark}
 use Rattle.core_grammar.specs.declared.terminal.Terminal.{Terminal}
 use Rattle.core_grammar.specs.Leave.{Leave, mark}
-use Rattle.core_grammar.specs.Grammar.{Annotated, bare, annotated, BareModule, «module», ModuleOf}
-use Rattle.core_reader.specs.Terminals.{Row, words, signs, mark_in, word_of, sign_of, number_of, or_zero, kind_of, terminal_of, terminals_of}
-use Rattle.core_reader.specs.Language.{Reads}
+use Rattle.core_grammar.specs.Grammar.{bare, annotated, BareModule, «module», ModuleOf}
+use Rattle.core_reader.specs.Terminals.{Row, words, signs, mark_in, word_of, sign_of, or_zero, kind_of, terminal_of, terminals_of}
 use Rattle.hipe_top.specs.Texts.{IsModuleWord, IsFirstWord, here, behind, BeginsAt}
 use Rattle.hipe_top.specs.Finding.{is_word, is_module_word, first_word, ReadsSome}
 

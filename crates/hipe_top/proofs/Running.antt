@@ -12,7 +12,6 @@ use Rattle.core_ast.specs.declared.tree.Module.{Module}
 use Rattle.hipe_terms.specs.declared.place.Place.{Place}
 use Rattle.core_ast.specs.Trees as T
 use Rattle.core_ast.specs.Trees.{module_of}
-use Rattle.core_ast.specs.Good.{IsGood}
 use Rattle.core_lint.specs.declared.refusal.LintRefusal.{LintRefusal}
 use Rattle.core_lint.specs.Refusals.{IsRefusal}
 use Rattle.core_reader.specs.declared.refusal.ReadRefusal.{ReadRefusal}
@@ -29,7 +28,7 @@ use Rattle.hipe_top.specs.declared.limits.TheConstants.{TEXT_LIMIT}
 use Rattle.hipe_top.specs.declared.stop.Stop.{Stop}
 use Rattle.hipe_top.specs.declared.words.Mode.{Mode}
 use Rattle.hipe_top.specs.declared.words.Mode.TheVariants.{Check, Run}
-use Rattle.hipe_top.specs.Answers.{AnswerOf, too_long, not_read, not_good, good, not_exported, not_built, sum}
+use Rattle.hipe_top.specs.Answers.{too_long, not_read, not_good, good, not_exported, not_built, sum}
 use Rattle.hipe_top.specs.Code.{code_for, EndsWithin, EndsWith}
 use Rattle.hipe_top.specs.Doing as D
 use Rattle.hipe_top.specs.Doing.{RanSum, returned, WroteOk, wrote, wrote_front, IsStop, IsRunStop}

@@ -1,5 +1,5 @@
 -- Which texts a mode takes and which it refuses, by its answers.
-use Rattle.std.proofs.Common.{◌≡◌, ◌⊎◌, inl, inr, ℕ, ◌<◌, ◌≤◌, List, [], ◌∷◌, length, Contains, refl, sym, ap, ◌∙◌, subst, arith}
+use Rattle.std.proofs.Common.{◌≡◌, ◌⊎◌, inl, inr, ℕ, ◌<◌, List, length, Contains, refl, sym, ap, ◌∙◌, subst, arith}
 use Rattle.hipe_terms.specs.declared.place.Place.{Place}
 use Rattle.core_token.specs.declared.token.TokenKind.{TokenKind}
 use Rattle.core_ast.specs.declared.tree.Module.{Module}

@@ -1,4 +1,4 @@
-use Rattle.std.proofs.Common.{sym, subst, arith}
+use Rattle.std.proofs.Common.{subst, arith}
 use Rattle.std.proofs.lemmas.Result.{err_from_is_err_and}
 use Rattle.hipe_top.specs.Outcome.{DidText, stream}
 use Rattle.hipe_top.proofs.Running.{text_not_read, text_did}

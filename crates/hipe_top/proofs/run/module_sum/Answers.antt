@@ -1,4 +1,3 @@
-use Rattle.std.proofs.Common.{ap, sym, subst, ◌∙◌}
 use Rattle.std.proofs.lemmas.Result.{err_from_is_err_and}
 use Rattle.core_ast.specs.Trees.{module_of}
 use Rattle.hipe_top.specs.Doing.{not_exported, not_built, memory_ran_out}
