@@ -1,5 +1,5 @@
 -- What is read of a text is what it reads as.
-use Rattle.std.proofs.Common.{◌≡◌, ℕ, List, [], ◌∷◌, Result, Ok, Err, refl, sym, ◌∙◌, subst}
+use Rattle.std.proofs.Common.{◌≡◌, ℕ, List, [], Result, Ok, Err, refl, subst}
 use Rattle.hipe_terms.specs.declared.place.Place.{Place}
 use Rattle.hipe_terms.specs.declared.constant.Call.{Call}
 use Rattle.core_token.specs.declared.token.Token.{Token}
@@ -8,9 +8,7 @@ use Rattle.core_token.specs.Text.{AreTokensOf, IsRefused}
 use Rattle.core_token.specs.Reading as T
 use Rattle.core_token.proofs.Cuts.{tokens_read, fault_found, unique}
 use Rattle.core_ast.specs.declared.tree.Module.{Module}
-use Rattle.core_grammar.specs.declared.fault.Fault.{Fault}
-use Rattle.core_grammar.specs.Language.{limit, Derives, DerivesCall, Refused, RefusedCall, IsAnswer, IsCallAnswer}
-use Rattle.core_parser.specs.Values.{Values}
+use Rattle.core_grammar.specs.Language.{limit, Derives, DerivesCall, IsAnswer, IsCallAnswer}
 use Rattle.core_parser.specs.Machine.{Answer, run, module_start, call_start, module_read, call_read}
 use Rattle.core_parser.proofs.Answering.{reads_modules, reads_calls}
 use Rattle.core_parser.proofs.Modules.{one_module, one_call}
@@ -18,7 +16,7 @@ use Rattle.core_reader.specs.declared.limit.TheConstants.{LEVEL_LIMIT}
 use Rattle.core_reader.specs.declared.refusal.ReadRefusal.{ReadRefusal}
 use Rattle.core_reader.specs.declared.refusal.CallRefusal.{CallRefusal}
 use Rattle.core_reader.specs.Terminals.{terminals_of}
-use Rattle.core_reader.specs.Language.{end_of, token_refusal, fault_refusal, Reads, IsRefusedAs, no_tokens, no_module, Answers, Only, ReadsCall, IsNoCall, no_call_tokens, no_call, AnswersCall, OnlyCall}
+use Rattle.core_reader.specs.Language.{end_of, Reads, IsRefusedAs, no_tokens, no_module, Answers, Only, ReadsCall, IsNoCall, no_call_tokens, no_call, AnswersCall, OnlyCall}
 use Rattle.core_reader.specs.Reading.{as_module, module_of_tokens, module_of, Found, as_call, call_of_tokens, call_of, FoundCall}
 
 -- what is found of a text, as it is

@@ -1,5 +1,5 @@
 -- What is read of a text is well formed: the numbers of its terminals are in their range.
-use Rattle.std.proofs.Common.{◌≡◌, ℕ, ◌<◌, ◌≤◌, ℤ, pos, negsuc, Bool, true, false, ◌&&◌, ◌||◌, ◌==◌, nat_le, nat_lt, List, [], ◌∷◌, All, Option, Some, None, Result, Ok, Err, arith, refl, ap, sym, ◌∙◌, subst}
+use Rattle.std.proofs.Common.{◌≡◌, ℕ, ℤ, pos, negsuc, Bool, true, false, ◌&&◌, ◌==◌, List, [], ◌∷◌, All, Option, Some, None, Result, Ok, Err, arith, refl, ap, sym, ◌∙◌, subst}
 use Rattle.std.specs.Prelude.{nat_abs, if◌then◌else◌, IfOk}
 use Rattle.std.specs.Char.{IsScalar}
 use lib.Utf8.{scalar, scalar_fits}
@@ -12,7 +12,7 @@ use Rattle.core_token.specs.declared.token.Sort.{Sort}
 use Rattle.core_token.specs.declared.token.Token.{Token}
 use Rattle.core_token.specs.Lexemes.{greatest_integer, farthest_below}
 use Rattle.core_token.specs.Values.{HasValue, integer_of, character_of, code_points_of, decimal, positive, negative}
-use Rattle.core_token.specs.Text.{StandsIn, AreTokensOf, bytes_of}
+use Rattle.core_token.specs.Text.{StandsIn, bytes_of}
 use Rattle.core_token.proofs.Valued.{stand}
 use Rattle.core_ast.specs.declared.tree.Module.{Module}
 use Rattle.core_ast.specs.Trees.{module_of}
@@ -22,7 +22,7 @@ use Rattle.core_grammar.specs.Language.{limit}
 use Rattle.core_grammar.specs.Ranges.{kind_in_range, code_points_in_range, terminals_in_range}
 use Rattle.core_grammar.proofs.WellFormed.{derived_are_well_formed}
 use Rattle.core_reader.specs.declared.refusal.ReadRefusal.{ReadRefusal}
-use Rattle.core_reader.specs.Terminals.{kind_of, number_of, or_zero, or_nul, terminal_of, terminals_of}
+use Rattle.core_reader.specs.Terminals.{kind_of, number_of, or_zero, or_nul, terminals_of}
 use Rattle.core_reader.specs.declared.limit.TheConstants.{LEVEL_LIMIT}
 use Rattle.core_reader.specs.Language.{Reads}
 use Rattle.core_reader.specs.Reading.{Found}

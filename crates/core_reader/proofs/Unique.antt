@@ -1,13 +1,11 @@
 -- A text reads as one module, or is refused for one reason.
-use Rattle.std.proofs.Common.{◌≡◌, ℕ, List, Result, Ok, Err, refl, sym, ap, ◌∙◌, subst}
+use Rattle.std.proofs.Common.{◌≡◌, ℕ, List, Result, Err, refl, ap, ◌∙◌, subst}
 use Rattle.hipe_terms.specs.declared.place.Place.{Place}
-use Rattle.core_token.specs.declared.token.Token.{Token}
 use Rattle.core_token.specs.declared.token.TokenKind.{TokenKind}
-use Rattle.core_token.specs.Text.{AreTokensOf, IsRefused}
 use Rattle.core_token.proofs.Cuts.{unique}
 use Rattle.core_ast.specs.declared.tree.Module.{Module}
 use Rattle.core_grammar.specs.declared.fault.Fault.{Fault}
-use Rattle.core_grammar.specs.Language.{limit, Derives, Refused, IsAnswer}
+use Rattle.core_grammar.specs.Language.{limit, Derives, Refused}
 use Rattle.core_parser.proofs.OneAnswer.{one_answer}
 use Rattle.core_parser.proofs.Modules.{one_module}
 use Rattle.core_reader.specs.declared.limit.TheConstants.{LEVEL_LIMIT}

@@ -2,7 +2,6 @@
 use Rattle.std.specs.Prelude.{ℕ, ℤ, pos, nat_abs, if◌then◌else◌, List, [], ◌∷◌, codes, map, nat_eq, Option, Some, None}
 use Rattle.std.specs.Cmp.Lexicographic.{pointwise}
 use Rattle.std.specs.Str.{IsUtf8}
-use Rattle.hipe_terms.specs.declared.place.Place.{Place}
 use Rattle.core_text.specs.Bytes.{is_digit, begins}
 use Rattle.core_token.specs.declared.token.Sort.{Sort}
 use Rattle.core_token.specs.declared.token.Token.{Token}

@@ -1,5 +1,5 @@
 -- What is found of an expression is what it is made as, and what such a sum holds.
-use Rattle.std.proofs.Common.{◌≡◌, ℕ, ◌+◌, ◌*◌, ◌≤◌, ℤ, Bool, true, false, ◌&&◌, cond, nat_le, List, [], ◌∷◌, ◌++◌, map, Option, Some, None, bytes_eq, arith, refl, sym, ap, ◌∙◌, subst}
+use Rattle.std.proofs.Common.{◌≡◌, ℕ, ◌+◌, ◌*◌, ◌≤◌, ℤ, Bool, true, false, ◌&&◌, nat_le, List, [], ◌∷◌, Option, Some, None, bytes_eq, arith, refl, sym, ap, ◌∙◌, subst}
 use Rattle.std.specs.Prelude.{codes, if◌then◌else◌}
 use Rattle.std.specs.Int.RustNames.{unsigned_abs}
 use Rattle.std.proofs.lemmas.Bool.Decides.{nat_tests}
@@ -8,7 +8,7 @@ use Rattle.hipe_terms.specs.declared.place.Place.{Place}
 use Rattle.core_ast.specs.Trees.{Expression, Expressions, no_expression, and_expression}
 use Rattle.core_ast.specs.Nodes.{expression_nodes}
 use Rattle.core_sum.specs.declared.sum.Sum.{Sum}
-use Rattle.core_sum.specs.Sums.{int_of, plus_of, count_of, farthest, HasSmallIntegers}
+use Rattle.core_sum.specs.Sums.{int_of, plus_of, count_of, HasSmallIntegers}
 use Rattle.core_sum.specs.Form.{IsSum, integer, addition}
 use Rattle.core_sum.specs.Made.{is_addition, small, added, sum_in, sums_in}
 use Rattle.core_sum.proofs.Levels.{count-int, count-plus, farthest-int, farthest-plus}

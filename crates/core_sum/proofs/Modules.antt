@@ -12,21 +12,21 @@ use Rattle.core_ast.specs.declared.tree.FunName.{FunName}
 use Rattle.core_ast.specs.declared.rule.Rule.{Rule}
 use Rattle.core_ast.specs.declared.rule.Rule.TheVariants as Rules
 use Rattle.core_ast.specs.declared.tree.FunDef.{FunDef}
-use Rattle.core_ast.specs.Trees.{definition_of, definitions, Expression, Expressions, no_expression, and_expression, Definitions, no_definition, and_definition, Module}
+use Rattle.core_ast.specs.Trees.{definition_of, definitions, Expression, Definitions, no_definition, and_definition, Module}
 use Rattle.core_ast.specs.Nodes.{expression_nodes}
-use Rattle.core_ast.specs.Names.{Names, is_named, has_function, with_variables}
+use Rattle.core_ast.specs.Names.{Names, is_named, with_variables}
 use Rattle.core_ast.specs.Places.{place_of}
 use Rattle.core_ast.specs.Part.{Part}
-use Rattle.core_ast.specs.Parts.{Scoped, parts, parts_of_all, parts_of_definitions, names_of, parts_of_module}
+use Rattle.core_ast.specs.Parts.{Scoped, parts, parts_of_definitions, names_of}
 use Rattle.core_ast.specs.Degrees.{misfits}
 use Rattle.core_ast.specs.Rules.{unless, broken_by, beyond_nodes}
-use Rattle.core_ast.specs.Good.{broken_in, IsGood}
+use Rattle.core_ast.specs.Good.{IsGood}
 use Rattle.core_sum.specs.declared.sum.Sum.{Sum}
 use Rattle.core_sum.specs.declared.sum.SumRefusal.{SumRefusal}
 use Rattle.core_sum.specs.Sums.{count_of, HasSmallIntegers}
-use Rattle.core_sum.specs.Form.{main, IsSum, integer, addition, Exports, IsSumModule, IsUnbuilt, function, expression, IsFirst, here, behind, IsFirstUnbuilt, IsSumRefusal}
+use Rattle.core_sum.specs.Form.{main, IsSum, integer, addition, IsSumModule, IsUnbuilt, function, expression, IsFirst, here, behind, IsFirstUnbuilt, IsSumRefusal}
 use Rattle.core_sum.specs.Made.{has_main, sum_in, alone, sum_of_definitions, Finds}
-use Rattle.core_sum.proofs.Forms.{small_integers, few_integers, there, is_made, none_made}
+use Rattle.core_sum.proofs.Forms.{small_integers, few_integers, is_made, none_made}
 
 -- ---- names
 

@@ -1,17 +1,16 @@
 -- A module has one sum or one first part that isn't of the form.
-use Rattle.std.proofs.Common.{◌≡◌, List, [], ◌∷◌, ◌++◌, map, Option, Some, None, refl, sym, ap, ◌∙◌, subst}
+use Rattle.std.proofs.Common.{◌≡◌, List, map, Option, Some, None, refl, sym, ap, ◌∙◌}
 use Rattle.hipe_terms.specs.declared.place.Place.{Place}
-use Rattle.core_ast.specs.Trees.{Expression, Definitions, no_definition, and_definition, Module}
+use Rattle.core_ast.specs.Trees.{Definitions, no_definition, and_definition, Module}
 use Rattle.core_ast.specs.Part.{Part}
 use Rattle.core_ast.specs.Parts.{parts_of_module}
 use Rattle.core_sum.specs.declared.sum.Sum.{Sum}
-use Rattle.core_sum.specs.Form.{main, IsSum, IsSumModule, IsUnbuilt, function, expression, IsFirst, here, behind, IsFirstUnbuilt}
+use Rattle.core_sum.specs.Form.{IsSumModule, IsUnbuilt, function, expression, IsFirst, here, behind, IsFirstUnbuilt}
 use Rattle.core_sum.specs.Made.{sum_in}
 use Rattle.core_sum.proofs.Forms.{there}
 use Rattle.core_sum.proofs.Modules.{none_unbuilt}
 
 abbrev body_of : Definitions → Option Sum
-
 body_of no_definition = None
 body_of (and_definition p f q xs body ds) = sum_in body
 

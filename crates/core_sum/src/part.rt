@@ -27,11 +27,7 @@ fn small(n: i64) -> Option<Sum>
 
 // The sum of two parts.
 #[tactic(auto, using(crate::proofs::Levels::made))]
-fn plus(
-    alloc: Global,
-    left: Option<Sum>,
-    right: Option<Sum>,
-) -> Result<Option<Sum>, AllocError>
+fn plus(alloc: Global, left: Option<Sum>, right: Option<Sum>) -> Result<Option<Sum>, AllocError>
     ensures { IfOk result (λ sum. sum ≡ added (left ∷ right ∷ [])) }
 {
     match (left, right) {

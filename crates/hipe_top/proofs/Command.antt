@@ -1,8 +1,10 @@
 -- Words that are compared with the two of the command.
 use Rattle.std.proofs.Common.{◌≡◌, ℕ, ◌<◌, ◌≤◌, List, [], ◌∷◌, length, get_or, sym, ap, ◌∙◌, arith}
-use Rattle.std.specs.Prelude.{◌↔◌, Bool, true, map}
+use Rattle.std.specs.Prelude.{◌↔◌, Bool, true, false, map}
 use Rattle.std.specs.Str.{bytes_eq}
 use Rattle.std.proofs.lemmas.Slice.Eq.{bytes_eq-Decides}
+use Rattle.hipe_top.specs.declared.words.Mode.TheVariants.{Check, Run}
+use Rattle.hipe_top.specs.Command.{IsCommand, words_of}
 
 -- a list of two elements
 pub two : {A : Type 0} (xs : List A) (x y : A) → 2 ≤ length xs → length xs < 3 → x ≡ get_or xs 0 x → y ≡ get_or xs 1 y → xs ≡ x ∷ y ∷ []
@@ -24,3 +26,27 @@ second_decides bytes_of words x y mode call p q first second is px qy f s right 
   where
     second_of : {a b d e : List ℕ} → a ∷ b ∷ [] ≡ d ∷ e ∷ [] → b ≡ e
     second_of h = ap (λ (l : List (List ℕ)). get_or l 1 []) h
+
+-- a word alone decides
+pub first_decides : {A : Type 0} (bytes_of : A → List ℕ) (words : List A) (x : A) (mode p : List ℕ) (same : Bool)
+    → 1 ≤ length words → length words < 2 → x ≡ get_or words 0 x → p ≡ bytes_of x → same ≡ bytes_eq p mode
+    → (same ≡ true) ↔ (map bytes_of words ≡ mode ∷ [])
+first_decides bytes_of [] x mode p same ge lt is px s = absurd (omega (arith, ge))
+first_decides bytes_of (a ∷ []) x mode p same ge lt is px s =
+    let word : bytes_of a ≡ p = ap bytes_of (sym is) ∙ sym px in (
+      λ good. ap (λ b. b ∷ []) (word ∙ (bytes_eq-Decides p mode).0 (sym s ∙ good)),
+      λ e. s ∙ (bytes_eq-Decides p mode).1 (sym word ∙ first_of e),
+    )
+  where
+    first_of : {b d : List ℕ} → b ∷ [] ≡ d ∷ [] → b ≡ d
+    first_of h = ap (λ (l : List (List ℕ)). get_or l 0 []) h
+first_decides bytes_of (a ∷ b ∷ words) x mode p same ge lt is px s = absurd (omega (arith, lt))
+
+-- words of no mode
+pub no_mode : (words : List (List ℕ)) → (words ≡ words_of Check → ⊥) → (words ≡ words_of Run → ⊥) → IsCommand words → ⊥
+no_mode words check run (Check, is) = check is
+no_mode words check run (Run, is) = run is
+
+-- a test that fails
+pub denied : {P : Type 0} (b : Bool) → ((b ≡ true) ↔ P) → b ≡ false → P → ⊥
+denied b test f p = let t = test.1 p in absurd (cc)

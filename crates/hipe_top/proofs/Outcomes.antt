@@ -1,12 +1,10 @@
 -- From what answering a source came to, and from the line on err, to the clauses of the whole program.
-use Rattle.std.proofs.Common.{◌≡◌, ◌≢◌, ◌⊎◌, inl, inr, ℕ, ◌<◌, ◌≤◌, List, [], length, Option, Some, None, Result, Ok, Err, refl, sym, ◌∙◌, subst, arith, append-nil}
+use Rattle.std.proofs.Common.{◌≡◌, ◌≢◌, inl, inr, ℕ, List, [], Option, Some, None, Result, Ok, Err, refl, sym, ◌∙◌, subst, arith, append-nil}
 use Rattle.std.specs.Prelude.{IfSome, unwrap_or}
 use Rattle.std.specs.Io.KnownBytes.{Appends, Keeps}
-use Rattle.hipe_terms.specs.declared.place.Place.{Place}
-use Rattle.hipe_top.specs.declared.stop.Reason.{Reason}
 use Rattle.hipe_top.specs.declared.stop.Stop.{Stop}
 use Rattle.hipe_top.specs.declared.words.Mode.{Mode}
-use Rattle.hipe_top.specs.Answers.{Answer, refused, answered, AnswerOf, Expected, bad_words, of_mode}
+use Rattle.hipe_top.specs.Answers.{refused, answered, AnswerOf, bad_words, of_mode}
 use Rattle.hipe_top.specs.Command.{IsCommand, words_of}
 use Rattle.hipe_top.specs.Outcome.{Stream, stream, Faulted, Untouched, Gained, GainedPrefix, GainedUnlessFaulted, HadLeft, WasRead, Reported, whole, broken, Ended, DidText, did, not_written, refused_as, no_memory, DidSource, did_text, not_read, out_of_memory, EndedByItself, Answered, RanOutOfMemory, ReadFailed, WriteFailed, on_out, on_err, after_failed_read, Accepts}
 use Rattle.hipe_top.specs.Stops.{status_of, status_unwritten, line_of}

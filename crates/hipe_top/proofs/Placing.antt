@@ -1,6 +1,6 @@
 -- The first word `module` of a text.
-use Rattle.std.proofs.Common.{◌≡◌, ◌⊎◌, inl, inr, ℕ, Bool, true, false, ◌&&◌, List, [], ◌∷◌, map, Option, Some, None, bytes_eq, refl, sym, ap, ◌∙◌, subst}
-use Rattle.std.specs.Prelude.{codes, nat_eq, nat_abs, ℤ, if◌then◌else◌, IfOk, OnErr}
+use Rattle.std.proofs.Common.{◌≡◌, ℕ, Bool, true, false, ◌&&◌, List, [], ◌∷◌, Some, None, Result, Err, bytes_eq, refl, ap, ◌∙◌, subst}
+use Rattle.std.specs.Prelude.{codes, nat_eq, nat_abs, ℤ, if◌then◌else◌}
 use Rattle.std.specs.Cmp.Lexicographic.{pointwise}
 use Rattle.std.proofs.lemmas.Slice.Eq.{bytes_eq-Decides}
 use Rattle.hipe_terms.specs.declared.place.Place.{Place}
@@ -8,7 +8,8 @@ use Rattle.core_text.specs.Bytes.{is_digit, begins}
 use Rattle.core_token.specs.declared.token.Sort.{Sort}
 use Rattle.core_token.specs.declared.token.Token.{Token}
 use Rattle.core_token.specs.declared.token.TokenKind.{TokenKind}
-use Rattle.core_token.specs.Text.{AreTokensOf, IsRefused, bytes_of}
+use Rattle.core_token.specs.declared.token.TokenFault.{TokenFault}
+use Rattle.core_token.specs.Text.{AreTokensOf, IsRefused, AnswersFault, bytes_of}
 use Rattle.core_token.specs.Values.{integer_of}
 use Rattle.core_token.proofs.Cuts.{unique}
 use Rattle.core_ast.specs.declared.tree.Module.{Module}
@@ -16,9 +17,8 @@ use Rattle.core_grammar.specs.declared.terminal.Kind.{Kind}
 use Rattle.core_grammar.specs.declared.terminal.Mark.{Mark}
 use Rattle.core_grammar.specs.declared.terminal.Terminal.{Terminal}
 use Rattle.core_grammar.specs.Leave.{Leave, mark}
-use Rattle.core_grammar.specs.Grammar.{Annotated, bare, annotated, BareModule, «module», ModuleOf}
-use Rattle.core_reader.specs.Terminals.{Row, words, signs, mark_in, word_of, sign_of, number_of, or_zero, kind_of, terminal_of, terminals_of}
-use Rattle.core_reader.specs.Language.{Reads}
+use Rattle.core_grammar.specs.Grammar.{bare, annotated, BareModule, «module», ModuleOf}
+use Rattle.core_reader.specs.Terminals.{Row, words, signs, mark_in, word_of, sign_of, or_zero, kind_of, terminal_of, terminals_of}
 use Rattle.hipe_top.specs.Texts.{IsModuleWord, IsFirstWord, here, behind, BeginsAt}
 use Rattle.hipe_top.specs.Finding.{is_word, is_module_word, first_word, ReadsSome}
 
@@ -75,9 +75,61 @@ spelled m cs ds (row ∷ rows) only h = go (pointwise nat_eq cs row.0) refl h (�
 word_only : Only Mark.Module (codes "module") words
 word_only = (
   λ h. absurd (cc),
-  (λ h. absurd (cc), (λ h. absurd (cc), (λ h. absurd (cc), (λ h. absurd (cc), (λ h. absurd (cc), (λ h. absurd (cc), (λ h. absurd (cc), (λ h. absurd (cc),
-  (λ h. absurd (cc), (λ h. absurd (cc), (λ h. absurd (cc), (λ h. refl, (λ h. absurd (cc), (λ h. absurd (cc), (λ h. absurd (cc), (λ h. absurd (cc), (λ h. absurd (cc), (λ h. absurd (cc),
-  λ h. absurd (cc))))))))))))))))))),
+  (
+    λ h. absurd (cc),
+    (
+      λ h. absurd (cc),
+      (
+        λ h. absurd (cc),
+        (
+          λ h. absurd (cc),
+          (
+            λ h. absurd (cc),
+            (
+              λ h. absurd (cc),
+              (
+                λ h. absurd (cc),
+                (
+                  λ h. absurd (cc),
+                  (
+                    λ h. absurd (cc),
+                    (
+                      λ h. absurd (cc),
+                      (
+                        λ h. absurd (cc),
+                        (
+                          λ h. refl,
+                          (
+                            λ h. absurd (cc),
+                            (
+                              λ h. absurd (cc),
+                              (
+                                λ h. absurd (cc),
+                                (
+                                  λ h. absurd (cc),
+                                  (
+                                    λ h. absurd (cc),
+                                    (
+                                      λ h. absurd (cc),
+                                      λ h. absurd (cc),
+                                    ),
+                                  ),
+                                ),
+                              ),
+                            ),
+                          ),
+                        ),
+                      ),
+                    ),
+                  ),
+                ),
+              ),
+            ),
+          ),
+        ),
+      ),
+    ),
+  ),
 )
 
 -- no row has the mark
@@ -97,9 +149,55 @@ not_among m cs (row ∷ rows) none h = go (pointwise nat_eq cs row.0) h (λ k. n
 signs_without : Without Mark.Module signs
 signs_without = (
   λ h. absurd (cc),
-  (λ h. absurd (cc), (λ h. absurd (cc), (λ h. absurd (cc), (λ h. absurd (cc), (λ h. absurd (cc), (λ h. absurd (cc), (λ h. absurd (cc), (λ h. absurd (cc),
-  (λ h. absurd (cc), (λ h. absurd (cc), (λ h. absurd (cc), (λ h. absurd (cc), (λ h. absurd (cc), (λ h. absurd (cc), (λ h. absurd (cc), (λ h. absurd (cc),
-  λ h. absurd (cc))))))))))))))))),
+  (
+    λ h. absurd (cc),
+    (
+      λ h. absurd (cc),
+      (
+        λ h. absurd (cc),
+        (
+          λ h. absurd (cc),
+          (
+            λ h. absurd (cc),
+            (
+              λ h. absurd (cc),
+              (
+                λ h. absurd (cc),
+                (
+                  λ h. absurd (cc),
+                  (
+                    λ h. absurd (cc),
+                    (
+                      λ h. absurd (cc),
+                      (
+                        λ h. absurd (cc),
+                        (
+                          λ h. absurd (cc),
+                          (
+                            λ h. absurd (cc),
+                            (
+                              λ h. absurd (cc),
+                              (
+                                λ h. absurd (cc),
+                                (
+                                  λ h. absurd (cc),
+                                  λ h. absurd (cc),
+                                ),
+                              ),
+                            ),
+                          ),
+                        ),
+                      ),
+                    ),
+                  ),
+                ),
+              ),
+            ),
+          ),
+        ),
+      ),
+    ),
+  ),
 )
 
 sign_spelled : (cs : List ℕ) → sign_of cs ≡ Mark.Module → ⊥
@@ -142,10 +240,10 @@ module_marked ok m _ us (annotated o b a) = mark_behind _ (bare_marked ok m _ _ 
 head_kind : (t : Terminal) (ts : List Terminal) (m : Mark) (p : Place) (us : List Terminal) → t ∷ ts ≡ mark m p ∷ us → t.kind ≡ Kind.Mark m
 head_kind t ts m p us h = ap (λ x. x.kind) (first_of h)
   where
-    first_of : {a b : Terminal} {as bs : List Terminal} → a ∷ as ≡ b ∷ bs → a ≡ b
+    first_of : {a b : Terminal} {as2 bs2 : List Terminal} → a ∷ as2 ≡ b ∷ bs2 → a ≡ b
     first_of h = cc
 
-rest_of : {a b : Terminal} {as bs : List Terminal} → a ∷ as ≡ b ∷ bs → as ≡ bs
+rest_of : {a b : Terminal} {ts us : List Terminal} → a ∷ ts ≡ b ∷ us → ts ≡ us
 rest_of h = cc
 
 some_word : (s : List ℕ) (ts : List Token) (xs : List Terminal) → Marked xs → terminals_of s ts ≡ xs → first_word s ts ≡ None → ⊥
@@ -163,7 +261,7 @@ some_word s (t ∷ ts) _ (mark_behind u m) e h = go (is_module_word s t) h (λ k
     go false h later = later h
 
 pub word_found : (s : List ℕ) (ts : List Token) → AreTokensOf s ts → ReadsSome s → first_word s ts ≡ None → ⊥
-word_found s ts are (m, us, others, derived) h =
+word_found s ts are (m, (us, others, derived)) h =
     let marked : Marked (terminals_of s ts) = subst (λ xs. Marked (terminals_of s xs)) (unique.one_list s us ts others are) (module_marked _ m (terminals_of s us) [] derived) in
     some_word s ts (terminals_of s ts) marked refl h
 
@@ -171,7 +269,10 @@ pub begins_at : (s : List ℕ) (ts : List Token) (p : Place) → AreTokensOf s t
 begins_at s ts p are h = (ts, are, first_is s ts p h)
 
 pub has_tokens : (s : List ℕ) (k : TokenKind) (p : Place) → ReadsSome s → IsRefused s k p → ⊥
-has_tokens s k p (m, ts, are, derived) h = unique.not_both s ts k p are h
+has_tokens s k p (m, (ts, are, derived)) h = unique.not_both s ts k p are h
+
+pub refused_tokens : (s : List ℕ) (k : TokenKind) (p : Place) (r : Result (List Token) TokenFault) → ReadsSome s → r ≡ Err (TokenFault.Refused k p) → AnswersFault s r → ⊥
+refused_tokens s k p r reads is h = has_tokens s k p reads (subst (AnswersFault s) is h)
 
 -- ---- it stands at one place
 

@@ -1,6 +1,6 @@
 -- From what the calls below promise to what running a text comes to.
-use Rattle.std.proofs.Common.{◌≡◌, ℕ, zero, suc, ◌+◌, ◌<◌, ◌≤◌, ℤ, List, ◌++◌, length, take, Option, Some, None, Result, Err, refl, sym, ap, ◌∙◌, arith, length-append, append-nil}
-use Rattle.std.specs.Prelude.{IsErrOf, ◌↔◌}
+use Rattle.std.proofs.Common.{◌≡◌, ℕ, zero, suc, ◌+◌, ◌<◌, ◌≤◌, ℤ, List, ◌++◌, length, take, Option, Some, None, Result, Err, refl, sym, ap, ◌∙◌, subst, arith, length-append, append-nil}
+use Rattle.std.specs.Prelude.{IsErrOf, IfErr, ◌↔◌}
 use Rattle.std.specs.Io.KnownBytes.{Keeps, Consumes, IsAtEnd}
 use Rattle.std.proofs.Math.Seq.{take-append_seam}
 use Rattle.std.proofs.lemmas.List.{take_all}
@@ -9,15 +9,17 @@ use Rattle.hipe_edge.specs.Counts.{Rises}
 use Rattle.hipe_edge.specs.declared.reading.ReadAllFault.{ReadAllFault}
 use Rattle.hipe_edge.specs.declared.reading.ReadAllFault.TheVariants as reads
 use Rattle.core_ast.specs.declared.tree.Module.{Module}
+use Rattle.hipe_terms.specs.declared.place.Place.{Place}
+use Rattle.core_ast.specs.Trees as T
 use Rattle.core_ast.specs.Trees.{module_of}
-use Rattle.core_ast.specs.Good.{IsGood}
 use Rattle.core_lint.specs.declared.refusal.LintRefusal.{LintRefusal}
 use Rattle.core_lint.specs.Refusals.{IsRefusal}
 use Rattle.core_reader.specs.declared.refusal.ReadRefusal.{ReadRefusal}
 use Rattle.core_reader.specs.Language.{Reads, Answers, Only}
 use Rattle.core_sum.specs.declared.sum.Sum.{Sum}
 use Rattle.core_sum.specs.Sums.{value}
-use Rattle.core_sum.specs.Form.{IsSumModule}
+use Rattle.core_sum.specs.declared.sum.SumRefusal.{SumRefusal}
+use Rattle.core_sum.specs.Form.{main, Exports, IsFirstUnbuilt, IsSumModule, IsSumRefusal}
 use Rattle.amd64_machine.specs.declared.result.ResultFault.{ResultFault}
 use Rattle.amd64_machine.specs.declared.result.ResultFault.TheVariants as results
 use Rattle.amd64_machine.specs.Machine.{State, Over, Ending, Returned, start, machine_step, machine_run}
@@ -26,11 +28,11 @@ use Rattle.hipe_top.specs.declared.limits.TheConstants.{TEXT_LIMIT}
 use Rattle.hipe_top.specs.declared.stop.Stop.{Stop}
 use Rattle.hipe_top.specs.declared.words.Mode.{Mode}
 use Rattle.hipe_top.specs.declared.words.Mode.TheVariants.{Check, Run}
-use Rattle.hipe_top.specs.Answers.{AnswerOf, too_long, not_read, not_good, good, not_exported, not_built, sum}
+use Rattle.hipe_top.specs.Answers.{too_long, not_read, not_good, good, not_exported, not_built, sum}
 use Rattle.hipe_top.specs.Code.{code_for, EndsWithin, EndsWith}
 use Rattle.hipe_top.specs.Doing as D
 use Rattle.hipe_top.specs.Doing.{RanSum, returned, WroteOk, wrote, wrote_front, IsStop, IsRunStop}
-use Rattle.hipe_top.specs.Outcome.{Stream, stream, Untouched, HadLeft, WasRead, DidText, did, refused_as, DidSource, did_text, out_of_memory}
+use Rattle.hipe_top.specs.Outcome.{Stream, stream, Untouched, HadLeft, WasRead, Reported, Ended, DidText, did, refused_as, DidSource, did_text, out_of_memory}
 use Rattle.hipe_top.specs.Outcome as O
 use Rattle.hipe_top.specs.Stops.{stop_of_source, stop_of_reading, stop_of_lint, stop_of_result}
 use Rattle.hipe_top.specs.Texts.{IsGoodText}
@@ -66,6 +68,10 @@ pub sum_not_written : (e : Sum) (fault : ResultFault) (w w' : Option (List ℕ))
     → (fault ≡ results.WriteFault → Rises f f') → (fault ≡ results.Memory → Keeps w w') → RanSum e (stream w w' f f') (Err (stop_of_result fault))
 sum_not_written e results.WriteFault w w' f f' ends front rises kept = D.not_written ends (rises refl) front
 sum_not_written e results.Memory w w' f f' ends front rises kept = D.no_memory (kept refl)
+
+-- a line of its own for each stop
+pub plain : (stop s : Stop) (err : Stream) (status : ℕ) → stop ≡ s → (Reported s err status → Ended s err status) → Reported stop err status → Ended stop err status
+plain stop s err status is f r = subst (λ x. Ended x err status) (sym is) (f (subst (λ x. Reported x err status) is r))
 
 -- ---- the source
 
@@ -148,3 +154,10 @@ sum_did bytes m e out g is (D.no_memory untouched) = O.no_memory untouched
 pub check_did : {result : Result (Unit {0}) Stop} (bytes : List ℕ) (m : Module) (out : Stream) → IsGoodText bytes m → WroteOk out result → DidText Check bytes out result
 check_did bytes m out g (wrote gained) = did _ (good m g) gained
 check_did bytes m out g (wrote_front faulted front) = O.not_written _ (good m g) faulted front
+
+-- why a module has no sum
+pub unexported : (m : T.Module) (why : SumRefusal) (r : Result Sum SumRefusal) → r ≡ Err why → why ≡ SumRefusal.NotExported → IfErr r (λ refusal. IsSumRefusal m refusal) → Exports m main → ⊥
+unexported m why r is same h = subst (IsSumRefusal m) same (subst (λ x. IfErr x (λ refusal. IsSumRefusal m refusal)) is h)
+
+pub unbuilt : (m : T.Module) (why : SumRefusal) (p : Place) (r : Result Sum SumRefusal) → r ≡ Err why → why ≡ SumRefusal.NotYet p → IfErr r (λ refusal. IsSumRefusal m refusal) → Exports m main × IsFirstUnbuilt m p
+unbuilt m why p r is same h = subst (IsSumRefusal m) same (subst (λ x. IfErr x (λ refusal. IsSumRefusal m refusal)) is h)

@@ -1,5 +1,5 @@
 -- Which texts a mode takes and which it refuses, by its answers.
-use Rattle.std.proofs.Common.{◌≡◌, ◌⊎◌, inl, inr, ℕ, ◌<◌, ◌≤◌, List, [], ◌∷◌, length, Contains, refl, sym, ap, ◌∙◌, subst, arith}
+use Rattle.std.proofs.Common.{◌≡◌, ◌⊎◌, inl, inr, ℕ, ◌<◌, List, length, Contains, refl, sym, ap, ◌∙◌, subst, arith}
 use Rattle.hipe_terms.specs.declared.place.Place.{Place}
 use Rattle.core_token.specs.declared.token.TokenKind.{TokenKind}
 use Rattle.core_ast.specs.declared.tree.Module.{Module}
@@ -120,17 +120,17 @@ one_mode Run Check h = absurd (let sizes : 2 ≡ 1 = ap length h in omega (arith
 -- ---- the answers to words and bytes
 
 accepts_of : (words : List (List ℕ)) (mode : Mode) (bytes : List ℕ) (status : ℕ) → words ≡ words_of mode → Decides bytes mode status → Accepts words bytes status
-accepts_of words mode bytes status good (inl (zero, taken, not_refused)) =
+accepts_of words mode bytes status named (inl (zero, taken, not_refused)) =
     record {
-      returns = (λ _. (mode, good, taken), λ _. zero);
-      refuses_words = (λ two. absurd (omega (arith, zero, two)), λ bad. absurd (bad (mode, good)));
-      refuses = (λ three. absurd (omega (arith, zero, three)), λ r. absurd (not_refused (subst (λ n. Refuses n bytes) (one_mode r.0 mode (sym r.1 ∙ good)) r.2)));
+      returns = (λ _. (mode, named, taken), λ _. zero);
+      refuses_words = (λ two. absurd (omega (arith, zero, two)), λ bad. absurd (bad (mode, named)));
+      refuses = (λ three. absurd (omega (arith, zero, three)), λ r. absurd (not_refused (subst (λ n. Refuses n bytes) (one_mode r.0 mode (sym r.1 ∙ named)) r.2)));
     }
-accepts_of words mode bytes status good (inr (three, not_taken, refuses)) =
+accepts_of words mode bytes status named (inr (three, not_taken, refuses)) =
     record {
-      returns = (λ zero. absurd (omega (arith, zero, three)), λ t. absurd (not_taken (subst (λ n. Takes n bytes) (one_mode t.0 mode (sym t.1 ∙ good)) t.2)));
-      refuses_words = (λ two. absurd (omega (arith, three, two)), λ bad. absurd (bad (mode, good)));
-      refuses = (λ _. (mode, good, refuses), λ _. three);
+      returns = (λ zero. absurd (omega (arith, zero, three)), λ t. absurd (not_taken (subst (λ n. Takes n bytes) (one_mode t.0 mode (sym t.1 ∙ named)) t.2)));
+      refuses_words = (λ two. absurd (omega (arith, three, two)), λ bad. absurd (bad (mode, named)));
+      refuses = (λ _. (mode, named, refuses), λ _. three);
     }
 
 pub expected_accepts : {words : List (List ℕ)} {bytes : List ℕ} {answer : Answer} → Expected words bytes answer → Accepts words bytes answer.status

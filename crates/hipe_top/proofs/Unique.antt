@@ -3,7 +3,6 @@ use Rattle.std.proofs.Common.{◌≡◌, ℕ, ◌<◌, ◌≤◌, List, length, 
 use Rattle.hipe_terms.specs.declared.place.Place.{Place}
 use Rattle.core_ast.specs.declared.tree.Module.{Module}
 use Rattle.core_ast.specs.declared.rule.Rule.{Rule}
-use Rattle.core_ast.specs.Trees as T
 use Rattle.core_ast.specs.Trees.{module_of}
 use Rattle.core_ast.specs.Good.{IsGood, IsFirstBroken}
 use Rattle.core_ast.proofs.Ordered.{one_first as one_rule_is_first}
@@ -20,8 +19,7 @@ use Rattle.hipe_top.specs.declared.stop.Reason.{Reason}
 use Rattle.hipe_top.specs.declared.stop.Stop.{Stop}
 use Rattle.hipe_top.specs.declared.words.Mode.{Mode}
 use Rattle.hipe_top.specs.declared.words.Mode.TheVariants.{Check, Run}
-use Rattle.hipe_top.specs.Answers.{Answer, refused, answered, not_yet, AnswerOf, too_long, not_read, not_good, good, not_exported, not_built, sum, Expected, bad_words, of_mode, HaveOneAnswer}
-use Rattle.hipe_top.specs.Command.{words_of}
+use Rattle.hipe_top.specs.Answers.{Answer, refused, answered, not_yet, AnswerOf, too_long, not_read, not_good, good, not_exported, not_built, sum, bad_words, of_mode, HaveOneAnswer}
 use Rattle.hipe_top.specs.Stops.{stop_of_reading}
 use Rattle.hipe_top.specs.Texts.{IsGoodText, BeginsAt}
 use Rattle.hipe_top.proofs.Placing.{one_beginning}

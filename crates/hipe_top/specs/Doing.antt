@@ -1,5 +1,5 @@
 -- What the parts of the program promise to one another.
-use Rattle.std.specs.Prelude.{◌≡◌, ℕ, ◌≤◌, List, length, codes, Result, Ok, Err}
+use Rattle.std.specs.Prelude.{ℕ, List, codes, Result, Ok, Err}
 use Rattle.hipe_terms.specs.declared.place.Place.{Place}
 use Rattle.core_ast.specs.declared.tree.Module.{Module}
 use Rattle.core_ast.specs.declared.rule.Rule.{Rule}

@@ -1,11 +1,10 @@
 -- What stands on the source and the sinks after each way in which the program ends. A source's bytes left and a
 -- sink's bytes written are known where they tell them.
-use Rattle.std.specs.Prelude.{◌≡◌, ◌≢◌, ◌⊎◌, ◌↔◌, ℕ, ◌+◌, ◌<◌, ◌≤◌, List, length, take, Option, Result, Ok, Err, IfSome}
+use Rattle.std.specs.Prelude.{◌≡◌, ◌≢◌, ◌⊎◌, ◌↔◌, ℕ, ◌+◌, List, take, Option, Result, Ok, Err, IfSome}
 use Rattle.std.specs.Io.KnownBytes.{Appends, Keeps, Consumes}
 use Rattle.hipe_edge.specs.Bytes.{AppendsPrefix}
 use Rattle.hipe_edge.specs.Counts.{Rises}
 use Rattle.hipe_top.specs.declared.limits.TheConstants.{TEXT_LIMIT}
-use Rattle.hipe_top.specs.declared.stop.Reason.{Reason}
 use Rattle.hipe_top.specs.declared.stop.Stop.{Stop}
 use Rattle.hipe_top.specs.declared.words.Mode.{Mode}
 use Rattle.hipe_top.specs.Answers.{Answer, refused, answered, AnswerOf, Expected}

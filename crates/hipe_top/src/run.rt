@@ -81,7 +81,12 @@ fn write_ok<O: Sink>(out: &mut O) -> Result<(), Stop>
 }
 
 // Compiles and runs a good module, and writes the line of its value.
-fn run_module<O: Sink>(alloc: Global, text: &[u8], good: &GoodModule, out: &mut O) -> Result<(), Stop>
+fn run_module<O: Sink>(
+    alloc: Global,
+    text: &[u8],
+    good: &GoodModule,
+    out: &mut O,
+) -> Result<(), Stop>
     requires short { length text.now ≤ TEXT_LIMIT }
     requires reads { Reads text.now good.now.tree }
     ensures { DidText Mode.Run text.now

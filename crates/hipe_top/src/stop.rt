@@ -1,5 +1,6 @@
 // Why the program stops without doing what it was asked for: its status, and its line.
-ghost use Rattle.std.specs.Prelude.{◌≡◌, string_bytes, IfOk};
+ghost use Rattle.std.specs.Prelude.{◌≡◌, [], ◌∷◌, ◌++◌, codes, string_bytes, IfOk, OnOk};
+ghost use Rattle.std.specs.Fmt.{decimal};
 ghost use Rattle.hipe_top.specs.declared.stop.Stop.{Stop as AStop};
 ghost use Rattle.hipe_top.specs.Outcome.{Reported, Ended, stream};
 ghost use Rattle.hipe_top.specs.Stops.{status_of, status_unwritten, name_of, rule_name, line_of, stop_of_source, stop_of_reading, stop_of_lint, stop_of_result};
@@ -110,13 +111,35 @@ impl Stop {
     }
 }
 
+// Appends a number in decimal.
+fn push_number(alloc: Global, number: u64, text: &mut String) -> Result<(), AllocError>
+    ensures { OnOk result (string_bytes text.new ≡ string_bytes text.old ++ decimal number) }
+{
+    let digits = format!(in alloc; "{number}")?;
+    text.push_str(digits.as_str())?;
+    Ok(())
+}
+
+// The line of a name and a place, with its newline.
+fn placed_line(alloc: Global, name: &str, line: u64, col: u64) -> Result<String, AllocError>
+    ensures { IfOk result (λ text. string_bytes text
+        ≡ codes "hipe: " ++ name.now ++ codes " " ++ decimal line ++ codes ":" ++ decimal col ++ 10 ∷ []) }
+{
+    let mut text = String::from_str(alloc, "hipe: ")?;
+    text.push_str(name)?;
+    text.push_str(" ")?;
+    push_number(alloc, line, &mut text)?;
+    text.push_str(":")?;
+    push_number(alloc, col, &mut text)?;
+    text.push_str("\n")?;
+    Ok(text)
+}
+
 // The line on err of a text that is refused at a place, with its newline.
 fn refusal_line(alloc: Global, reason: Reason, at: Place) -> Result<String, AllocError>
     ensures { IfOk result (λ line. string_bytes line ≡ line_of (AStop.Refused reason at)) }
 {
-    let name = reason.name();
-    let Place { line, col } = at;
-    format!(in alloc; "hipe: {name} {line}:{col}\n")
+    placed_line(alloc, reason.name(), at.line, at.col)
 }
 
 // Writes the line on err, and answers the exit status.

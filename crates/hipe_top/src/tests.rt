@@ -1,11 +1,11 @@
 // The whole program in memory: worked texts, refusals, and calls that fail.
 use super::code::code_of;
 use super::top::hipe_alone;
+use core_sum::Sum;
 use hipe_edge::{CountSink, MemSink, MemSource, SureSource};
 use std::alloc::{AllocError, Global};
 use std::process::Abort;
 use std::test::Fail;
-use sum_reader::Sum;
 
 const BEFORE: &str = "module 'm' ['main'/0] attributes [] 'main'/0 = fun () -> ";
 
@@ -47,34 +47,91 @@ fn assert_seen(rt: &impl Abort, seen: &Seen, status: u8, out: &str, err: &str) {
     assert_eq!(rt; seen.err.as_slice(), err.as_bytes());
 }
 
+// What `check` and `run` answer to a module with this body.
+fn assert_body(
+    rt: &impl Abort,
+    alloc: Global,
+    body: &str,
+    checked: (u8, &str, &str),
+    ran: (u8, &str, &str),
+) -> Result<(), AllocError> {
+    let text = format!(in alloc; "{BEFORE}{body} end")?;
+    let seen = call(alloc, &["check"], text.as_str(), [&[], &[], &[]])?;
+    assert_seen(rt, &seen, checked.0, checked.1, checked.2);
+    let seen = call(alloc, &["run", "'main'()"], text.as_str(), [&[], &[], &[]])?;
+    assert_seen(rt, &seen, ran.0, ran.1, ran.2);
+    Ok(())
+}
+
 #[test]
 fn bodies_give_their_sums(rt: HostRuntime) -> Result<(), Fail> {
-    let alloc = rt.alloc();
-    let not_yet = "hipe: not_yet 1:1\n";
-    for (body, status, out, err) in [
-        ("42", 0, "value 42\n", ""),
-        ("call 'erlang':'+'(40,2)", 0, "value 42\n", ""),
-        (
-            "call 'erlang':'+'(-5,call 'erlang':'+'(2,3))",
-            0,
-            "value 0\n",
-            "",
-        ),
+    let good = (0, "ok\n", "");
+    for (body, value) in [
+        ("42", "value 42\n"),
+        ("call 'erlang':'+'(40,2)", "value 42\n"),
+        ("call 'erlang':'+'(-5,call 'erlang':'+'(2,3))", "value 0\n"),
         (
             "call 'erlang':'+'(call 'erlang':'+'(1,2),call 'erlang':'+'(3,-999999))",
-            0,
             "value -999993\n",
-            "",
         ),
-        ("-999999", 0, "value -999999\n", ""),
-        ("+7", 0, "value 7\n", ""),
-        ("1000000", 3, "", not_yet),
-        ("call 'erlang':'-'(40,2)", 3, "", not_yet),
-        ("", 3, "", not_yet),
+        ("-999999", "value -999999\n"),
+        (
+            "( call 'erlang':( '+' -| ['a'] )(( 1 -| [] ), $a) -| [] )",
+            "value 98\n",
+        ),
     ] {
-        let text = format!(in alloc; "{BEFORE}{body} end")?;
-        let seen = call(alloc, &["run", "'main'()"], text.as_str(), [&[], &[], &[]])?;
-        assert_seen(&rt, &seen, status, out, err);
+        assert_body(&rt, rt.alloc(), body, good, (0, value, ""))?;
+    }
+    Ok(())
+}
+
+#[test]
+fn bodies_are_refused(rt: HostRuntime) -> Result<(), Fail> {
+    let good = (0, "ok\n", "");
+    for (body, line) in [
+        ("1000000", "hipe: not_yet 1:58\n"),
+        ("call 'erlang':'-'(40,2)", "hipe: not_yet 1:58\n"),
+        ("( 'x' -| [] )", "hipe: not_yet 1:60\n"),
+    ] {
+        assert_body(&rt, rt.alloc(), body, good, (3, "", line))?;
+    }
+    for (body, line) in [
+        ("", "hipe: syntax 1:59\n"),
+        ("foo", "hipe: token 1:58\n"),
+        ("576460752303423488", "hipe: wide_integer 1:58\n"),
+        ("1.5", "hipe: not_in_profile 1:58\n"),
+        ("{X}", "hipe: unbound_variable 1:59\n"),
+        ("<1,2>", "hipe: degree 1:58\n"),
+    ] {
+        assert_body(&rt, rt.alloc(), body, (3, "", line), (3, "", line))?;
+    }
+    Ok(())
+}
+
+#[test]
+fn places_of_modules(rt: HostRuntime) -> Result<(), Fail> {
+    let alloc = rt.alloc();
+    for (text, line) in [
+        ("", "hipe: syntax 1:1\n"),
+        (
+            "module 'm' [] attributes [] 'f'/0 = fun () -> 1 'f'/0 = fun () -> 2 end",
+            "hipe: duplicate_function 1:49\n",
+        ),
+        (
+            "\n % a comment\n  ( module 'm' [] attributes [] 'f'/0 = fun () -> 1 end -| [] )",
+            "hipe: not_yet 3:5\n",
+        ),
+        (
+            "module 'm' ['main'/0] attributes [] 'f'/0 = fun () -> 1 'main'/0 = fun () -> 'x' end",
+            "hipe: not_yet 1:37\n",
+        ),
+        (
+            "module 'm' ['main'/0] attributes [] 'main'/0 = fun () -> 1 'f'/0 = fun () -> 1 end",
+            "hipe: not_yet 1:60\n",
+        ),
+    ] {
+        let seen = call(alloc, &["run", "'main'()"], text, [&[], &[], &[]])?;
+        assert_seen(&rt, &seen, 3, "", line);
     }
     Ok(())
 }
@@ -93,10 +150,10 @@ fn words_and_inputs_are_refused(rt: HostRuntime) -> Result<(), Fail> {
         assert_seen(&rt, &seen, 2, "", "hipe: words\n");
     }
     for (spaces, err) in [
-        (65_536, "hipe: not_yet 1:1\n"),
-        (65_537, "hipe: too_long\n"),
+        (16_777_216, "hipe: syntax 1:16777217\n"),
+        (16_777_217, "hipe: too_long\n"),
     ] {
-        let words = command(alloc, &["run", "'main'()"])?;
+        let words = command(alloc, &["check"])?;
         let mut source = SureSource::new(vec![in alloc; b' '; spaces]?);
         let mut out = CountSink::new();
         let mut line = MemSink::new(alloc, 100, Vec::new(alloc))?;
@@ -131,7 +188,7 @@ fn calls_that_fail_are_told(rt: HostRuntime) -> Result<(), Fail> {
         (good, none, &[2], &[1], 0, "value 42\n", ""),
         (good, &[1], none, &[1], 7, "", ""),
         (bad, none, none, &[1], 7, "", ""),
-        (bad, none, &[1], &[2], 3, "", "hipe: not_yet 1:1\n"),
+        (bad, none, &[1], &[2], 3, "", "hipe: syntax 1:60\n"),
         (good, none, none, none, 0, "value 42\n", ""),
     ] {
         let text = format!(in alloc; "{BEFORE}{body}")?;

@@ -65,11 +65,11 @@ pub fn hipe_alone<S: Source, O: Sink, E: Sink>(
     ensures accepts { EndedByItself result →
         IfSome (S.left source.old) (λ bytes. Accepts (map string_bytes words.now) bytes result) }
 {
-    let Some(mode) = mode_of(words) else {
-        return report(alloc, Stop::Words, err);
-    };
-    match answer_source(alloc, mode, source, out) {
-        Ok(()) => 0,
-        Err(stop) => report(alloc, stop, err),
+    match mode_of(words) {
+        None => report(alloc, Stop::Words, err),
+        Some(mode) => match answer_source(alloc, mode, source, out) {
+            Ok(()) => 0,
+            Err(stop) => report(alloc, stop, err),
+        },
     }
 }

@@ -1,4 +1,4 @@
-use Rattle.std.proofs.Common.{◌≡◌, ◌<◌, length, ap, sym, ◌∙◌, refl, subst, map}
+use Rattle.std.proofs.Common.{◌<◌, length, ap, sym, ◌∙◌, refl, subst, map}
 use Rattle.core_ast.specs.Trees.{module_of, definition_of, definitions}
 use Rattle.core_sum.specs.Made.{Finds, has_main, sum_of_definitions}
 use Rattle.core_sum.proofs.Modules.{answered, not_exported, some_defs}

@@ -7,7 +7,7 @@ use Rattle.core_sum.specs.Sums.{value}
 use Rattle.amd64_machine.specs.Result.{result_line, value_line}
 use Rattle.amd64_machine.specs.Seen.{state_of}
 use Rattle.hipe_top.specs.Code.{EndsWith}
-use Rattle.hipe_top.specs.Outcome.{returned}
+use Rattle.hipe_top.specs.Doing.{returned}
 use Rattle.hipe_top.proofs.Running.{ends_over, keeps_same, sum_without_memory, sum_not_written}
 use Rattle.hipe_top.proofs.run.run_sum.Goals as goal
 

@@ -1,41 +1,35 @@
-use Rattle.std.proofs.Common.{◌≡◌, Bool, true, false}
 use Rattle.hipe_top.proofs.Running.{keeps_same}
-use Rattle.hipe_top.proofs.Outcomes.{words_answered, words_not_written, value_answered, answered_accepts, err_answered, err_without_memory, err_not_read, err_not_written}
+use Rattle.hipe_top.proofs.Outcomes.{words_answered, words_not_written, line_answered, answered_accepts, err_answered, err_without_memory, err_not_read, err_not_written}
 use Rattle.hipe_top.proofs.top.hipe_alone.Goals as goal
 
-not_both : {X : Type 0} (b : Bool) → b ≡ true → b ≡ false → X
-not_both b t f = absurd (cc)
+pub returns-in-None-clause-answered : goal.returns-in-None-clause-answered
+returns-in-None-clause-answered g c = words_answered _ _ _ _ _ c.report.result _ c.in-None.ensures c.report.ensures
 
-pub returns-then-not-is_run-clause-answered : goal.returns-then-not-is_run-clause-answered
-returns-then-not-is_run-clause-answered g c =
-    words_answered _ _ _ _ _ c.report.result _ (λ good. not_both c.is_run.result (c.is_run.ensures.1 good) c.if-not-is_run.true) c.report.ensures
-
-pub returns-then-not-is_run-clause-write_failed : goal.returns-then-not-is_run-clause-write_failed
-returns-then-not-is_run-clause-write_failed g c =
-    words_not_written _ _ _ _ _ c.report.result _ (λ good. not_both c.is_run.result (c.is_run.ensures.1 good) c.if-not-is_run.true) c.report.ensures
+pub returns-in-None-clause-write_failed : goal.returns-in-None-clause-write_failed
+returns-in-None-clause-write_failed g c = words_not_written _ _ _ _ _ c.report.result _ c.in-None.ensures c.report.ensures
 
 pub returns-in-Ok-clause-answered : goal.returns-in-Ok-clause-answered
 returns-in-Ok-clause-answered g c = λ itself.
-    value_answered _ (c.is_run.ensures.0 c.if-not-is_run.false) _ _ _ (keeps_same _) c.run_text.ensures c.in-Ok.field-0 c.in-Ok.is
+    line_answered _ c.in-Some.mode c.in-Some.ensures _ _ _ (keeps_same _) c.answer_source.ensures c.in-Ok.field-0 c.in-Ok.is
 
 pub returns-in-Ok-clause-accepts : goal.returns-in-Ok-clause-accepts
 returns-in-Ok-clause-accepts g c = λ itself. answered_accepts _ _ _ _ _ (returns-in-Ok-clause-answered g c itself)
 
 pub returns-in-Err-clause-answered : goal.returns-in-Err-clause-answered
 returns-in-Err-clause-answered g c =
-    err_answered _ (c.is_run.ensures.0 c.if-not-is_run.false) _ _ _ _ c.run_text.ensures c.in-Err.stop c.in-Err.is c.report-in-Err.ensures
+    err_answered _ c.in-Some.mode c.in-Some.ensures _ _ _ _ c.answer_source.ensures c.in-Err.stop c.in-Err.is c.report-in-Err.ensures
 
 pub returns-in-Err-clause-out_of_memory : goal.returns-in-Err-clause-out_of_memory
 returns-in-Err-clause-out_of_memory g c =
-    err_without_memory _ (c.is_run.ensures.0 c.if-not-is_run.false) _ _ _ _ c.run_text.ensures c.in-Err.stop c.in-Err.is c.report-in-Err.ensures
+    err_without_memory _ c.in-Some.mode c.in-Some.ensures _ _ _ _ c.answer_source.ensures c.in-Err.stop c.in-Err.is c.report-in-Err.ensures
 
 pub returns-in-Err-clause-read_failed : goal.returns-in-Err-clause-read_failed
 returns-in-Err-clause-read_failed g c =
-    err_not_read _ (c.is_run.ensures.0 c.if-not-is_run.false) _ _ _ _ c.run_text.ensures c.in-Err.stop c.in-Err.is c.report-in-Err.ensures
+    err_not_read _ c.in-Some.mode c.in-Some.ensures _ _ _ _ c.answer_source.ensures c.in-Err.stop c.in-Err.is c.report-in-Err.ensures
 
 pub returns-in-Err-clause-write_failed : goal.returns-in-Err-clause-write_failed
 returns-in-Err-clause-write_failed g c =
-    err_not_written _ (c.is_run.ensures.0 c.if-not-is_run.false) _ _ _ _ c.run_text.ensures c.in-Err.stop c.in-Err.is c.report-in-Err.ensures
+    err_not_written _ c.in-Some.mode c.in-Some.ensures _ _ _ _ c.answer_source.ensures c.in-Err.stop c.in-Err.is c.report-in-Err.ensures
 
 pub returns-in-Err-clause-accepts : goal.returns-in-Err-clause-accepts
 returns-in-Err-clause-accepts g c = λ itself. answered_accepts _ _ _ _ _ (returns-in-Err-clause-answered g c itself)
