@@ -1,8 +1,8 @@
 -- What patterns bind, one after another.
 use Rattle.std.proofs.Common.{◌≡◌, ℕ, suc, ◌+◌, ◌<◌, ◌≤◌, List, [], ◌∷◌, ◌++◌, Option, Some, None, option_map, map, drop, get_or, length, true, false, refl, sym, ap, ◌∙◌, append_assoc, append-nil, arith}
-use Rattle.std.specs.Prelude.{Bool, if◌then◌else◌}
+use Rattle.std.specs.Prelude.{Bool}
 use Rattle.std.proofs.lemmas.List.{map-append, at_drop_more, at_drop_all}
-use Rattle.hipe_terms.specs.Terms.{Term, Terms, none, more, terms}
+use Rattle.hipe_terms.specs.Terms.{Term, none, terms}
 use Rattle.core_ast.specs.Trees.{Pattern, Patterns, no_pattern, and_pattern, pattern_of, patterns}
 use Rattle.core_ast.specs.declared.pattern.Pattern as RustPattern
 use Rattle.core_ast.specs.declared.pattern.PatNode.{out-PatNode}

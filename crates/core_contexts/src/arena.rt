@@ -1,5 +1,7 @@
 // What the values of runs stand in.
 
+ghost use Rattle.std.specs.Prelude.{◌≡◌, IfOk};
+
 use bumpalo::Bump;
 use core_values::Atoms;
 use std::alloc::{AllocError, Global};
@@ -14,7 +16,9 @@ pub struct Arena {
 
 impl Arena {
     /// An empty one. An error where there is no memory for it.
-    pub fn new(alloc: Global) -> Result<Arena, AllocError> {
+    pub fn new(alloc: Global) -> Result<Arena, AllocError>
+        ensures { IfOk result (λ arena. arena.alloc ≡ alloc) }
+    {
         Ok(Arena {
             alloc,
             bump: Bump::new(alloc),

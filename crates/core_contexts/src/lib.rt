@@ -11,6 +11,7 @@
 //   matching.rt   patterns against values
 //   program.rt    a program: a module, with its functions by number
 //   table.rt      what a run asks of a program
+//   word.rt       atoms that are given words
 #![tactic(auto)]
 
 pub mod arena;
@@ -18,9 +19,11 @@ pub mod context;
 pub mod matching;
 pub mod program;
 pub mod table;
+pub mod word;
 
 pub use arena::Arena;
 pub use context::{Context, joined};
 pub use matching::matched_all;
 pub use program::Program;
 pub use table::built_in;
+pub use word::is_word;

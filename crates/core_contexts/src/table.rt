@@ -1,7 +1,7 @@
 // What a run asks of a program.
 
 ghost use Rattle.std.specs.List.{list_any};
-ghost use Rattle.std.specs.Prelude.{◌≡◌, map, length, IfOk};
+ghost use Rattle.std.specs.Prelude.{◌≡◌, map, length, slice_get, IfOk};
 ghost use Rattle.core_ast.specs.Names.{is_named};
 ghost use Rattle.core_ast.specs.Trees.{definition_of, definitions, module_of};
 ghost use Rattle.core_meaning.specs.Meaning.{arity_of, exported, number_among};
@@ -9,10 +9,11 @@ ghost use Rattle.core_meaning.specs.Scopes.{function_names};
 ghost use Rattle.core_meaning.specs.Procedures.{program_of};
 ghost use Rattle.core_values.specs.Results.{arities_in};
 ghost use Rattle.core_contexts.specs.Programs.{program_in};
-ghost use Rattle.hipe_terms.specs.Bifs.{built_in};
+ghost use Rattle.hipe_terms.specs.Bifs.{built_in, first_named};
 
 use crate::arena::Arena;
 use crate::program::Program;
+use crate::word::{is_name_of, is_word};
 use core_ast::{FunDef, FunName, Module};
 use core_procedures::{Procedure, module_procedures};
 use core_values::{Ground, same_atom};
@@ -52,8 +53,8 @@ impl<'a> Program<'a> {
     pub fn arity_of(&self, n: u64) -> u64
         ensures { result ≡ arity_of (program_in self.now) n }
     {
-        match self.arities.get(n as usize) {
-            Some(arity) => *arity,
+        match number_at(self.arities, n) {
+            Some(arity) => arity,
             None => 0,
         }
     }
@@ -68,6 +69,13 @@ impl<'a> Program<'a> {
             None
         }
     }
+}
+
+// The number at this place, counted from 0.
+fn number_at(numbers: &[u64], place: u64) -> Option<u64>
+    ensures { result ≡ slice_get numbers.now place }
+{
+    numbers.get(place as usize).copied()
 }
 
 // The number of parameters of each of these functions.
@@ -98,11 +106,19 @@ fn number_among(name: &Atom, arity: u64, defs: &[FunDef]) -> Option<u64>
     ensures { result ≡ number_among 0 (record { name = name.now; arity = arity }) (function_names (definitions (map definition_of defs.now))) }
 {
     for (i, def) in defs.iter().enumerate() {
-        if has_name(name, arity, &def.name) {
+        if is_definition_of(name, arity, def) {
             return Some(i as u64);
         }
     }
     None
+}
+
+// Whether a definition is that of a function of this name and arity.
+#[tactic(auto, using(core_ast::proofs::Levels::levels))]
+fn is_definition_of(name: &Atom, arity: u64, def: &FunDef) -> bool
+    ensures { result ≡ is_named (record { name = name.now; arity = arity }) (definition_of def.now).name }
+{
+    has_name(name, arity, &def.name)
 }
 
 // Whether a function has this name and arity.
@@ -116,12 +132,20 @@ fn has_name(name: &Atom, arity: u64, f: &FunName) -> bool
 pub fn built_in(of: &Atom, name: &Atom, arity: usize) -> Option<Bif>
     ensures { result ≡ built_in of.now name.now arity }
 {
-    if of.as_str() != "erlang" {
-        return None;
+    if is_word(of, "erlang") {
+        first_named(name, arity, &BUILT_INS)
+    } else {
+        None
     }
-    for bif in BUILT_INS {
-        if bif.arity() == arity && bif.name() == name.as_str() {
-            return Some(bif);
+}
+
+// The first of these of this name and number of arguments.
+fn first_named(name: &Atom, arity: usize, bifs: &[Bif]) -> Option<Bif>
+    ensures { result ≡ first_named name.now arity bifs.now }
+{
+    for bif in bifs {
+        if is_name_of(*bif, name) && bif.arity() == arity {
+            return Some(*bif);
         }
     }
     None

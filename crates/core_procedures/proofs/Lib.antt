@@ -3,3 +3,4 @@ pub mod Found
 pub mod Firsts
 pub mod Positions
 pub mod Numbered
+pub mod Claims

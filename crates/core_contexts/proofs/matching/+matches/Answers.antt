@@ -1,4 +1,4 @@
-use Rattle.std.proofs.Common.{◌+◌, ◌≡◌, Bool, true, false, Some, map, drop, sym, ap, ◌∙◌}
+use Rattle.std.proofs.Common.{◌+◌, map, drop, sym, ap, ◌∙◌}
 use Rattle.hipe_terms.specs.Terms.{terms}
 use Rattle.core_ast.specs.Trees.{pattern_of, patterns}
 use Rattle.core_meaning.specs.Matching.{matched, matched_all, matched_cells}

@@ -1,4 +1,4 @@
-use Rattle.std.proofs.Common.{◌+◌, ◌++◌, ◌∷◌, [], Some, drop, get_or, sym, ap, ◌∙◌}
+use Rattle.std.proofs.Common.{◌+◌, ◌∷◌, [], Some, drop, get_or, sym, ap, ◌∙◌}
 use Rattle.std.proofs.lemmas.List.{map-append, at_drop_more, at_drop_all}
 use Rattle.core_values.specs.Values.{term_in, terms_in}
 use Rattle.core_contexts.proofs.Slots.{values_after, values_more, values_lost, values_done}
