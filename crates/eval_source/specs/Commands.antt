@@ -1,5 +1,5 @@
 -- What the program's commands stand for.
-use Rattle.eval_source.specs.declared.words.Command as Rust
+use Rattle.eval_source.specs.declared.command.Command as Rust
 use Rattle.eval_source.specs.Words.{Command}
 
 abbrev pub command_in : Rust.Command → Command

@@ -6,4 +6,4 @@ pub mod Texts
 pub mod Answers
 pub mod Streams
 pub mod Outcome
-pub mod Doing
+pub mod Refusing

@@ -1,6 +1,5 @@
 -- What stands on the source and the sinks after each way in which the program ends.
 use Rattle.std.specs.Prelude.{◌≡◌, ◌⊎◌, ℕ, List, Result, Ok, Err}
-use Rattle.eval_source.specs.declared.stop.Reason.{Reason}
 use Rattle.eval_source.specs.declared.stop.Stop.{Stop}
 use Rattle.eval_source.specs.Answers.{Answer, refused, ran, Expected}
 use Rattle.eval_source.specs.Stops.{status_of, status_unwritten, line_of}
@@ -11,7 +10,7 @@ pub data Reported (stop : Stop) (err : Stream) (status : ℕ) : Type 0 where
   whole : status ≡ status_of stop → Gained err (line_of stop) → Reported stop err status
   broken : status ≡ status_unwritten stop → Faulted err → GainedPrefix err (line_of stop) → Reported stop err status
 
--- the same, and where there is no memory for the line with a place, it is the line and the status of that
+-- the same, and where there is no memory for a line with a place, it is the line and the status of that
 abbrev pub Ended : Stop → Stream → ℕ → Type 0
 Ended (Stop.Call p) err status = Reported (Stop.Call p) err status ⊎ Reported Stop.Memory err status
 Ended (Stop.Refused r p) err status = Reported (Stop.Refused r p) err status ⊎ Reported Stop.Memory err status

@@ -41,15 +41,15 @@ name_of Reason.TooDeep = codes "too_deep"
 name_of Reason.NotInProfile = codes "not_in_profile"
 name_of (Reason.Broken rule) = rule_name rule
 
--- a place as LINE:COL
-abbrev pub place_text : Place → List ℕ
-place_text p = decimal p.line ++ codes ":" ++ decimal p.col
+-- what is said of a place, and the place as LINE:COL
+abbrev pub placed : List ℕ → Place → List ℕ
+placed said p = codes "hipe: " ++ said ++ codes " " ++ decimal p.line ++ codes ":" ++ decimal p.col
 
 abbrev pub text_of : Stop → List ℕ
 text_of Stop.Words = codes "hipe: words"
-text_of (Stop.Call p) = codes "hipe: call " ++ place_text p
+text_of (Stop.Call p) = placed (codes "call") p
 text_of Stop.TooLong = codes "hipe: too_long"
-text_of (Stop.Refused r p) = codes "hipe: " ++ name_of r ++ codes " " ++ place_text p
+text_of (Stop.Refused r p) = placed (name_of r) p
 text_of Stop.ReadFault = codes "hipe: read_fault"
 text_of Stop.WriteFault = codes "hipe: write_fault"
 text_of Stop.Memory = codes "hipe: memory"

@@ -14,6 +14,7 @@
 //
 // Files:
 //   limits.rt   the limits, with their reasons
+//   command.rt  what the words ask for
 //   words.rt    the words, by hand
 //   lines.rt    what a run writes
 //   run.rt      from the words and the source to the lines on out
@@ -21,6 +22,7 @@
 //   top.rt      `eval_source`
 #![tactic(auto)]
 
+mod command;
 mod limits;
 mod lines;
 mod run;

@@ -3,7 +3,7 @@ ghost use Rattle.std.specs.Prelude.{◌≡◌, ◌≤◌, length, map, string_by
 ghost use Rattle.core_ast.specs.Trees.{module_of};
 ghost use Rattle.core_reader.specs.Language.{Reads};
 ghost use Rattle.eval_source.specs.Answers.{RunWrites};
-ghost use Rattle.eval_source.specs.Doing.{IsStop};
+ghost use Rattle.eval_source.specs.Refusing.{IsStop};
 ghost use Rattle.eval_source.specs.Outcome.{Came};
 ghost use Rattle.eval_source.specs.Streams.{stream};
 

@@ -1,5 +1,5 @@
 // Why the program stops without doing what it was asked for: its status, and its line.
-ghost use Rattle.std.specs.Prelude.{◌≡◌, ◌⊎◌, string_bytes, IfOk};
+ghost use Rattle.std.specs.Prelude.{◌≡◌, ◌⊎◌, ◌++◌, [], ◌∷◌, codes, decimal, string_bytes, IfOk, OnOk};
 ghost use Rattle.eval_source.specs.declared.stop.Stop.{Stop as AStop};
 ghost use Rattle.eval_source.specs.Outcome.{Reported, Ended};
 ghost use Rattle.eval_source.specs.Streams.{stream};
@@ -109,21 +109,40 @@ impl Stop {
     }
 }
 
+fn push_number(alloc: Global, n: u64, text: &mut String) -> Result<(), AllocError>
+    ensures { OnOk result (string_bytes text.new ≡ string_bytes text.old ++ decimal n) }
+{
+    let digits = format!(in alloc; "{n}")?;
+    text.push_str(digits.as_str())
+}
+
+// A line on err with a place, and its newline.
+fn placed_line(alloc: Global, said: &str, line: u64, col: u64) -> Result<String, AllocError>
+    ensures { IfOk result (λ text. string_bytes text
+        ≡ codes "hipe: " ++ said.now ++ codes " " ++ decimal line ++ codes ":" ++ decimal col ++ 10 ∷ []) }
+{
+    let mut text = String::from_str(alloc, "hipe: ")?;
+    text.push_str(said)?;
+    text.push_str(" ")?;
+    push_number(alloc, line, &mut text)?;
+    text.push_str(":")?;
+    push_number(alloc, col, &mut text)?;
+    text.push_str("\n")?;
+    Ok(text)
+}
+
 // The line on err of a word that is no call from a place on, with its newline.
 fn call_line(alloc: Global, at: Place) -> Result<String, AllocError>
     ensures { IfOk result (λ line. string_bytes line ≡ line_of (AStop.Call at)) }
 {
-    let Place { line, col } = at;
-    format!(in alloc; "hipe: call {line}:{col}\n")
+    placed_line(alloc, "call", at.line, at.col)
 }
 
 // The line on err of a text that is refused at a place, with its newline.
 fn refusal_line(alloc: Global, reason: Reason, at: Place) -> Result<String, AllocError>
     ensures { IfOk result (λ line. string_bytes line ≡ line_of (AStop.Refused reason at)) }
 {
-    let name = reason.name();
-    let Place { line, col } = at;
-    format!(in alloc; "hipe: {name} {line}:{col}\n")
+    placed_line(alloc, reason.name(), at.line, at.col)
 }
 
 // Writes the line on err, and answers the exit status.

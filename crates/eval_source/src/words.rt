@@ -1,18 +1,11 @@
 // The words of the command.
-ghost use Rattle.std.specs.Prelude.{◌≡◌, ◌<◌, ◌^◌, length, map, option_map};
+ghost use Rattle.std.specs.Prelude.{◌≡◌, ◌⊎◌, ◌+◌, ◌-◌, ◌*◌, ◌^◌, ◌≤◌, true, false, map, option_map, MatchOption};
 ghost use Rattle.std.specs.String.{string_bytes};
-ghost use Rattle.eval_source.specs.Words.{command_with, command_of, number_of, is_digit};
+ghost use Rattle.eval_source.specs.Words.{command_with, command_of, number_of, that_fits, with_digits, is_digit};
 ghost use Rattle.eval_source.specs.Commands.{command_in};
 
+use super::command::Command;
 use super::limits::{DEFAULT_FUEL, MOST_DIGITS};
-
-/// What the words ask for: the run of a call, by its text, with so much fuel.
-#[derive(Clone, Copy)]
-pub struct Command<'a> {
-    pub call: &'a str,
-    pub fuel: u64,
-    pub ghost short: { length call.now < 2 ^ 32 },
-}
 
 /// What the words ask for, which are CALL and perhaps `--fuel N`. None where they are others.
 pub fn command_of(words: &[String]) -> Option<Command<'_>>
@@ -45,14 +38,33 @@ fn number_of(digits: &[u8]) -> Option<u64>
     if digits.is_empty() || digits.len() > MOST_DIGITS {
         return None;
     }
+    value_of(digits)
+}
+
+// The number that any count of digits names, where it fits.
+#[tactic(auto, using(crate::proofs::Digits::digits))]
+fn value_of(digits: &[u8]) -> Option<u64>
+    ensures { result ≡ that_fits (with_digits 0 digits.now) }
+{
     let mut n = 0u64;
     for b in digits {
-        if !is_digit(*b) {
-            return None;
+        match with_digit(n, *b) {
+            Some(more) => n = more,
+            None => return None,
         }
-        n = n.checked_mul(10)?.checked_add(u64::from(*b - b'0'))?;
     }
     Some(n)
+}
+
+// A number with one more digit, where it is one and the number fits.
+fn with_digit(n: u64, b: u8) -> Option<u64>
+    ensures { MatchOption result ((is_digit b ≡ false) ⊎ (2 ^ 64 ≤ n * 10 + (b - 48)))
+        (λ m. (is_digit b ≡ true) × (m ≡ n * 10 + (b - 48))) }
+{
+    if !is_digit(b) {
+        return None;
+    }
+    n.checked_mul(10)?.checked_add(u64::from(b - b'0'))
 }
 
 fn is_digit(b: u8) -> bool
