@@ -1,0 +1,5 @@
+pub mod Digits
+pub mod Reading
+pub mod Naming
+pub mod Coming
+pub mod Doing
