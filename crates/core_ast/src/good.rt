@@ -9,6 +9,7 @@ use crate::tree::Module;
 /// A module that breaks no rule and is well formed, which its type keeps.
 #[derive(Drop)]
 pub struct GoodModule {
+    /// The module itself.
     pub tree: Module,
     pub ghost good: { IsGood (module_of tree) },
     pub ghost well_formed: { IsWellFormed (module_of tree) },

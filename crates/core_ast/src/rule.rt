@@ -17,8 +17,9 @@ pub enum Rule {
     /// A variable that is bound twice: by a fun's parameters, a `let`, the `of` or the `catch` of a `try`, or the patterns
     /// of one clause. Broken at the second.
     DuplicateVariable,
-    /// A part that has another number of values than its place needs; and a function with another number of parameters
-    /// than its name says, at its `fun`.
+    /// A part that has another number of values than its place needs; a function with another number of parameters than its name
+    /// says, at its `fun`; and a `try` whose `catch` binds other than two or three variables, at the first of them, or at the
+    /// `try` where there is none.
     Degree,
     /// A name, a fun, an `apply`, a `call` or a `primop` with more than `ARITY_LIMIT` parameters or arguments.
     ArityLimit,

@@ -8,13 +8,16 @@ use sqlite_items::{Boxed, Items};
 /// The name of a function: an atom and the number of its parameters.
 #[derive(Debug, Drop)]
 pub struct FunName {
+    /// Its atom.
     pub name: Atom,
+    /// How many parameters it has. More than 255 break a rule, but can be written.
     pub arity: u64,
 }
 
 /// A module.
 #[derive(Drop)]
 pub struct Module {
+    /// Its name.
     pub name: Atom,
     /// The functions that other modules can call, each with the place of its name.
     pub exports: Items<(FunName, Place)>,
@@ -72,7 +75,7 @@ pub enum Node {
     Tuple(Items<Expr>),
     /// The first elements, and the list behind them.
     List(Items<Expr>, Boxed<Expr>),
-    /// Any number of values but one, as `<1,2>`.
+    /// Any number of values, as `<1,2>`.
     Values(Items<Expr>),
     /// `let` of variables, the values that they are bound to, and the body.
     Let(Items<Var>, Boxed<Expr>, Boxed<Expr>),

@@ -1,6 +1,11 @@
 -- The grammar: which terminals derive which tree. Each fact says that a list of terminals begins with what it names, and
 -- which terminals come after it. The names are those of the productions of Core Erlang 1.0.3; A(x) is `x` or
--- `( x -| [ constants ] )`. A part stands where its first terminal stands, where the `(` of annotations don't count.
+-- `( x -| [ constants ] )`. A part stands where its first terminal stands, where the `(` of annotations don't count. A part
+-- without a terminal, as the tail of `[E]`, stands where the innermost list or text stands.
+--
+-- The productions stand from constants up to the module, since each speaks only of those above it. Where `x` leads back to
+-- what it is a part of, `A(x)` and `list(x)` are written out: beside `BarePattern`, which is x, stands `PatternOf`, which is
+-- A(x), and beside `SomePatterns`, which is one or more x with commas, stands `PatternsOf`, which is list(x).
 use Rattle.std.specs.Prelude.{◌≡◌, ℕ, ℤ, pos, ◌+◌, List, [], ◌∷◌, true}
 use Rattle.hipe_terms.specs.declared.place.Place.{Place}
 use Rattle.hipe_terms.specs.declared.constant.Constant.{Constant}

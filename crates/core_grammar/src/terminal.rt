@@ -7,24 +7,43 @@ use sqlite_items::Items;
 /// A word or a sign of the language: a token with one spelling.
 #[derive(Clone, Copy, Debug, PartialEq, Eq)]
 pub enum Mark {
+    /// `after`
     After,
+    /// `apply`
     Apply,
+    /// `attributes`
     Attributes,
+    /// `call`
     Call,
+    /// `case`
     Case,
+    /// `catch`
     Catch,
+    /// `do`
     Do,
+    /// `end`
     End,
+    /// `fun`
     Fun,
+    /// `in`
     In,
+    /// `let`
     Let,
+    /// `letrec`
     Letrec,
+    /// `module`
     Module,
+    /// `of`
     Of,
+    /// `primop`
     Primop,
+    /// `receive`
     Receive,
+    /// `timeout`
     Timeout,
+    /// `try`
     Try,
+    /// `when`
     When,
     /// `(`
     OpenRound,

@@ -26,8 +26,11 @@ pub enum Part {
 /// What lists and tuples are made of. Numbers are levels.
 #[derive(Clone, Copy, Debug)]
 pub enum Term {
+    /// An expression.
     Expression(u32),
+    /// A pattern.
     Pattern(u32),
+    /// A constant.
     Constant(u32),
 }
 
@@ -68,16 +71,27 @@ pub enum Maker {
     Join(Term),
     /// The name of a function, as an expression.
     Name,
+    /// A tuple of the elements.
     Tuple(Term),
+    /// The values `<..>` of the elements.
     Values,
+    /// A `let`.
     Let,
+    /// A fun, as an expression.
     Lambda,
+    /// A `letrec`.
     Letrec,
+    /// An `apply`.
     Apply,
+    /// A `call`.
     Call,
+    /// A `primop`.
     Primop,
+    /// A `try`.
     Try,
+    /// A `do`.
     Do,
+    /// A `catch`.
     Catch,
     /// No clauses yet.
     NoClauses,
@@ -85,9 +99,11 @@ pub enum Maker {
     Clause,
     /// The patterns of a clause that has one.
     OnePattern,
+    /// An alias of the pattern on top.
     Alias,
     /// The variables where there is one without `<`.
     OneVariable,
+    /// A fun of the parameters and the body.
     Fun,
     /// No definitions yet.
     NoDefinitions,
@@ -122,8 +138,9 @@ pub enum Symbol {
     CellsRest(Term),
     /// The tail of a list of this level.
     Tail(Term),
-    /// The same behind its `(`, of a list of expressions and of one of patterns.
+    /// The tail of a list of expressions, behind its `(`.
     ExpressionTailInside(u32),
+    /// The tail of a list of patterns, behind its `(`.
     PatternTailInside(u32),
     /// What follows the `[` of a list that is a tail.
     TailFirst(Term),
@@ -131,8 +148,9 @@ pub enum Symbol {
     Variables,
     /// A pattern.
     Pattern(u32),
-    /// A pattern behind its `(`, and behind `(` and a variable.
+    /// A pattern behind its `(`.
     PatternInside(u32),
+    /// A pattern behind `(` and a variable.
     PatternInsideVariable(u32),
     /// A variable that is an alias.
     AliasName(u32),
@@ -140,11 +158,15 @@ pub enum Symbol {
     AfterVariable(u32),
     /// A clause, annotated or not.
     Clause(u32),
-    /// A clause behind `(`, behind `( V`, behind `( (`, behind `( ( V`, and behind `( ( V -| [..] )`.
+    /// A clause behind `(`.
     ClauseInside(u32),
+    /// A clause behind `( V`.
     ClauseInsideVariable(u32),
+    /// A clause behind `( (`.
     ClauseTwiceInside(u32),
+    /// A clause behind `( ( V`.
     ClauseTwiceInsideVariable(u32),
+    /// A clause behind `( ( V -| [..] )`.
     ClauseTwiceInsideAnnotated(u32),
     /// What follows `(` and a pattern: the `when` of a clause that is annotated, or the pattern's annotation.
     ClauseMiddle(u32),

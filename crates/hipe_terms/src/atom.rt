@@ -52,6 +52,13 @@ impl Atom {
         self.text.as_str()
     }
 
+    /// Every atom has at most `ATOM_LIMIT` code points.
+    pub fn keeps_limit(&self)
+        ensures { length self.now ≤ ATOM_LIMIT }
+    {
+        let _ = &self.text;
+    }
+
     /// The code points. An error where there is no memory for them.
     pub fn code_points(&self, alloc: Global) -> Result<Vec<char>, AllocError>
         ensures { IfOk result (λ points. points.items ≡ self.now) }

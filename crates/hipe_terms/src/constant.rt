@@ -26,7 +26,9 @@ pub enum Constant {
 /// A call of a function of a module by its name.
 #[derive(Debug, Drop)]
 pub struct Call {
+    /// The function's name.
     pub name: Atom,
+    /// The arguments, from left to right. Their number is the arity of the function that is called.
     pub args: Items<Constant>,
 }
 
