@@ -1,6 +1,6 @@
 // A stack.
 
-ghost use Rattle.std.specs.Prelude.{◌≡◌, [], ◌∷◌, OnOk, MatchOption};
+ghost use Rattle.std.specs.Prelude.{◌≡◌, [], ◌∷◌, OnErr, OnOk, MatchOption};
 
 use std::alloc::{AllocError, Global};
 use std::marker::Model;
@@ -42,10 +42,11 @@ impl<T> Stack<T> {
 }
 
 impl<T: Drop> Stack<T> {
-    /// Puts an item on top. The error is that memory ran out.
+    /// Puts an item on top. The error is that memory ran out; the stack is then as before.
     #[tactic(auto, using(crate::proofs::Reversed::reversed))]
     pub fn push(&mut self, item: T) -> Result<(), AllocError>
-        ensures { OnOk result (self.new ≡ item ∷ self.old) }
+        ensures ok { OnOk result (self.new ≡ item ∷ self.old) }
+        ensures err { OnErr result (self.new ≡ self.old) }
     {
         self.items.push(item)?;
         Ok(())

@@ -1,6 +1,6 @@
 // Elements of lists of parts.
 
-ghost use Rattle.std.specs.Prelude.{◌≡◌, ◌∷◌, OnOk};
+ghost use Rattle.std.specs.Prelude.{◌≡◌, [], ◌∷◌, ◌++◌, IfOk, OnOk};
 ghost use Rattle.core_parser.specs.declared.symbol.Element.{Element as AnElement};
 ghost use Rattle.core_parser.specs.declared.symbol.Term.{Term as ATerm};
 ghost use Rattle.core_parser.specs.Values.{empty, pushed};
@@ -28,12 +28,36 @@ pub fn empty(alloc: Global, element: Element) -> Value
     }
 }
 
+/// One element, with room for itself alone.
+pub(crate) fn alone<T: Drop>(alloc: Global, element: T) -> Result<Items<T>, AllocError>
+    ensures { IfOk result (λ all. all ≡ element ∷ []) }
+{
+    let mut first = Vec::with_capacity(alloc, 1)?;
+    first.push_reserved(element);
+    Ok(Items::from_vec(first))
+}
+
+/// The elements, and one more at their end. The first takes room for itself alone, since many lists of a module get no second.
+pub(crate) fn added<T: Drop>(
+    alloc: Global,
+    elements: Items<T>,
+    element: T,
+) -> Result<Items<T>, AllocError>
+    ensures { IfOk result (λ all. all ≡ elements ++ element ∷ []) }
+{
+    if elements.is_empty() {
+        return alone(alloc, element);
+    }
+    let mut all = elements;
+    all.push(element)?;
+    Ok(all)
+}
+
 fn push_variable(alloc: Global, values: &mut Stack<Value>) -> Result<(), AllocError>
     ensures { OnOk result (values.new ≡ pushed AnElement.Variable values.old) }
 {
     let element = to_variable(alloc, take(values));
-    let mut elements = to_variables(alloc, take(values));
-    elements.push(element)?;
+    let elements = added(alloc, to_variables(alloc, take(values)), element)?;
     values.push(Value::Variables(elements))
 }
 
@@ -42,8 +66,7 @@ fn push_export(alloc: Global, values: &mut Stack<Value>) -> Result<(), AllocErro
 {
     let name = to_name(alloc, take(values));
     let at = to_place(take(values));
-    let mut elements = to_exports(alloc, take(values));
-    elements.push((name, at))?;
+    let elements = added(alloc, to_exports(alloc, take(values)), (name, at))?;
     values.push(Value::Exports(elements))
 }
 
@@ -52,8 +75,7 @@ fn push_attribute(alloc: Global, values: &mut Stack<Value>) -> Result<(), AllocE
 {
     let constant = to_constant(take(values));
     let name = to_atom(alloc, take(values));
-    let mut elements = to_attributes(alloc, take(values));
-    elements.push((name, constant))?;
+    let elements = added(alloc, to_attributes(alloc, take(values)), (name, constant))?;
     values.push(Value::Attributes(elements))
 }
 
@@ -61,8 +83,7 @@ fn push_expression(alloc: Global, values: &mut Stack<Value>) -> Result<(), Alloc
     ensures { OnOk result (values.new ≡ pushed (AnElement.Term (ATerm.Expression 0)) values.old) }
 {
     let element = to_expression(take(values));
-    let mut elements = to_expressions(alloc, take(values));
-    elements.push(element)?;
+    let elements = added(alloc, to_expressions(alloc, take(values)), element)?;
     values.push(Value::Expressions(elements))
 }
 
@@ -70,8 +91,7 @@ fn push_pattern(alloc: Global, values: &mut Stack<Value>) -> Result<(), AllocErr
     ensures { OnOk result (values.new ≡ pushed (AnElement.Term (ATerm.Pattern 0)) values.old) }
 {
     let element = to_pattern(take(values));
-    let mut elements = to_patterns(alloc, take(values));
-    elements.push(element)?;
+    let elements = added(alloc, to_patterns(alloc, take(values)), element)?;
     values.push(Value::Patterns(elements))
 }
 
@@ -79,8 +99,7 @@ fn push_constant(alloc: Global, values: &mut Stack<Value>) -> Result<(), AllocEr
     ensures { OnOk result (values.new ≡ pushed (AnElement.Term (ATerm.Constant 0)) values.old) }
 {
     let element = to_constant(take(values));
-    let mut elements = to_constants(alloc, take(values));
-    elements.push(element)?;
+    let elements = added(alloc, to_constants(alloc, take(values)), element)?;
     values.push(Value::Constants(elements))
 }
 

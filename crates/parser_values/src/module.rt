@@ -3,6 +3,7 @@
 ghost use Rattle.std.specs.Prelude.{◌≡◌, ◌∷◌, OnOk};
 ghost use Rattle.core_parser.specs.Values.{function, definition, whole_module, whole_call};
 
+use crate::element::added;
 use crate::taken::{
     take, to_atom, to_attributes, to_constants, to_definitions, to_exports, to_expression, to_fun,
     to_name, to_place, to_variables,
@@ -33,8 +34,8 @@ pub fn definition(alloc: Global, values: &mut Stack<Value>) -> Result<(), AllocE
     let fun = to_fun(alloc, take(values))?;
     let name = to_name(alloc, take(values));
     let at = to_place(take(values));
-    let mut definitions = to_definitions(alloc, take(values));
-    definitions.push(FunDef { name, fun, at })?;
+    let definition = FunDef { name, fun, at };
+    let definitions = added(alloc, to_definitions(alloc, take(values)), definition)?;
     values.push(Value::Definitions(definitions))
 }
 

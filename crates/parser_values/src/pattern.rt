@@ -3,13 +3,14 @@
 ghost use Rattle.std.specs.Prelude.{◌≡◌, ◌∷◌, OnOk};
 ghost use Rattle.core_parser.specs.Values.{clause, one_pattern, variable_pattern, alias, one_variable};
 
+use crate::element::{added, alone};
 use crate::taken::{
     take, to_clauses, to_expression, to_pattern, to_patterns, to_place, to_variable,
 };
 use core_ast::{Clause, PatNode, Pattern, Var};
 use core_parser::Value;
 use parser_stack::Stack;
-use sqlite_items::{Boxed, Items};
+use sqlite_items::Boxed;
 use std::alloc::{AllocError, Global};
 
 /// A clause, at the end of the clauses below it.
@@ -21,13 +22,13 @@ pub fn clause(alloc: Global, values: &mut Stack<Value>) -> Result<(), AllocError
     let guard = to_expression(take(values));
     let patterns = to_patterns(alloc, take(values));
     let at = to_place(take(values));
-    let mut clauses = to_clauses(alloc, take(values));
-    clauses.push(Clause {
+    let clause = Clause {
         patterns,
         guard,
         body,
         at,
-    })?;
+    };
+    let clauses = added(alloc, to_clauses(alloc, take(values)), clause)?;
     values.push(Value::Clauses(clauses))
 }
 
@@ -37,8 +38,7 @@ pub fn one_pattern(alloc: Global, values: &mut Stack<Value>) -> Result<(), Alloc
 {
     let pattern = to_pattern(take(values));
     values.push(Value::At(pattern.at))?;
-    let mut patterns = Items::new(alloc);
-    patterns.push(pattern)?;
+    let patterns = alone(alloc, pattern)?;
     values.push(Value::Patterns(patterns))
 }
 
@@ -73,7 +73,6 @@ pub fn one_variable(alloc: Global, values: &mut Stack<Value>) -> Result<(), Allo
     ensures { OnOk result (values.new ≡ one_variable values.old) }
 {
     let variable = to_variable(alloc, take(values));
-    let mut variables = Items::new(alloc);
-    variables.push(variable)?;
+    let variables = alone(alloc, variable)?;
     values.push(Value::Variables(variables))
 }

@@ -13,11 +13,11 @@ use std::alloc::{AllocError, Global};
 fn constant_characters(alloc: Global, text: &[u32]) -> Result<Items<Constant>, AllocError>
     ensures { IfOk result (λ cs. cs ≡ map constant_character text.now) }
 {
-    let mut characters = Items::new(alloc);
+    let mut characters = Vec::with_capacity(alloc, text.len())?;
     for c in text {
-        characters.push(Constant::Int(*c as i64))?;
+        characters.push_reserved(Constant::Int(*c as i64));
     }
-    Ok(characters)
+    Ok(Items::from_vec(characters))
 }
 
 /// A text, as a constant.
@@ -38,14 +38,14 @@ pub fn constant_text(alloc: Global, text: &[u32]) -> Result<Constant, AllocError
 fn pattern_characters(alloc: Global, at: Place, text: &[u32]) -> Result<Items<Pattern>, AllocError>
     ensures { IfOk result (λ fs. fs ≡ map (pattern_character at) text.now) }
 {
-    let mut characters = Items::new(alloc);
+    let mut characters = Vec::with_capacity(alloc, text.len())?;
     for c in text {
-        characters.push(Pattern {
+        characters.push_reserved(Pattern {
             node: PatNode::Int(*c as i64),
             at,
-        })?;
+        });
     }
-    Ok(characters)
+    Ok(Items::from_vec(characters))
 }
 
 /// A text at a place, as a pattern.
@@ -73,14 +73,14 @@ pub fn pattern_text(alloc: Global, at: Place, text: &[u32]) -> Result<Pattern, A
 fn characters(alloc: Global, at: Place, text: &[u32]) -> Result<Items<Expr>, AllocError>
     ensures { IfOk result (λ es. es ≡ map (character_at at) text.now) }
 {
-    let mut characters = Items::new(alloc);
+    let mut characters = Vec::with_capacity(alloc, text.len())?;
     for c in text {
-        characters.push(Expr {
+        characters.push_reserved(Expr {
             node: Node::Int(*c as i64),
             at,
-        })?;
+        });
     }
-    Ok(characters)
+    Ok(Items::from_vec(characters))
 }
 
 /// A text at a place, as an expression.
