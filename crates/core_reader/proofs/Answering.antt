@@ -8,7 +8,8 @@ use Rattle.core_token.specs.Text.{AreTokensOf, IsRefused}
 use Rattle.core_token.specs.Reading as T
 use Rattle.core_token.proofs.Cuts.{tokens_read, fault_found, unique}
 use Rattle.core_ast.specs.declared.tree.Module.{Module}
-use Rattle.core_grammar.specs.Language.{limit, Derives, DerivesCall, IsAnswer, IsCallAnswer}
+use Rattle.core_grammar.specs.Language.{limit, Derives, DerivesCall}
+use Rattle.core_grammar.specs.Language as G
 use Rattle.core_parser.specs.Machine.{Answer, run, module_start, call_start, module_read, call_read}
 use Rattle.core_parser.proofs.Answering.{reads_modules, reads_calls}
 use Rattle.core_parser.proofs.Modules.{one_module, one_call}
@@ -17,6 +18,7 @@ use Rattle.core_reader.specs.declared.refusal.ReadRefusal.{ReadRefusal}
 use Rattle.core_reader.specs.declared.refusal.CallRefusal.{CallRefusal}
 use Rattle.core_reader.specs.Terminals.{terminals_of}
 use Rattle.core_reader.specs.Language.{end_of, Reads, IsRefusedAs, no_tokens, no_module, Answers, Only, ReadsCall, IsNoCall, no_call_tokens, no_call, AnswersCall, OnlyCall}
+use Rattle.core_reader.specs.Laws.{IsAnswer, SomeAnswer, IsCallAnswer, SomeCallAnswer}
 use Rattle.core_reader.specs.Reading.{as_module, module_of_tokens, module_of, Found, as_call, call_of_tokens, call_of, FoundCall}
 
 -- what is found of a text, as it is
@@ -35,7 +37,7 @@ module _ (s : List ℕ) where
   of_none : (ts : List Token) → AreTokensOf s ts → ((m : Module) → Derives (limit LEVEL_LIMIT) (terminals_of s ts) m → ⊥) → (n : Module) → Reads s n → ⊥
   of_none ts t none_is n (us, u, e) = none_is n (subst (λ xs. Derives (limit LEVEL_LIMIT) (terminals_of s xs) n) (unique.one_list s us ts u t) e)
 
-  of_run : (ts : List Token) → AreTokensOf s ts → (r : Answer) → IsAnswer LEVEL_LIMIT (end_of s) (terminals_of s ts) (module_read r) → IsRead s (as_module r)
+  of_run : (ts : List Token) → AreTokensOf s ts → (r : Answer) → G.IsAnswer LEVEL_LIMIT (end_of s) (terminals_of s ts) (module_read r) → IsRead s (as_module r)
   of_run ts t (Ok vs) h = ((ts, t, h), λ n d. of_derived ts t _ n h d)
   of_run ts t (Err (f, p)) h = (no_module ts f p t h.0, λ n d. of_none ts t h.1 n d)
 
@@ -70,6 +72,13 @@ only s (Err (ReadRefusal.TooDeep p)) h = (is_read s (Err (ReadRefusal.TooDeep p)
 only s (Err (ReadRefusal.NotInProfile p)) h = (is_read s (Err (ReadRefusal.NotInProfile p)) h).1
 only s (Err ReadRefusal.Memory) h = tt
 
+pub some_answer : SomeAnswer
+some_answer s = (module_of s, as_answer s (module_of s) (module_found s))
+  where
+    as_answer : (s : List ℕ) (r : Result Module ReadRefusal) → IsRead s r → IsAnswer s r
+    as_answer s (Ok m) h = h.0
+    as_answer s (Err e) h = h
+
 -- the same for calls
 
 abbrev IsCall : List ℕ → Result Call Place → Type 0
@@ -83,7 +92,7 @@ module _ (s : List ℕ) where
   of_no_call : (ts : List Token) → AreTokensOf s ts → ((c : Call) → DerivesCall (limit LEVEL_LIMIT) (terminals_of s ts) c → ⊥) → (d : Call) → ReadsCall s d → ⊥
   of_no_call ts t none_is d (us, u, e) = none_is d (subst (λ xs. DerivesCall (limit LEVEL_LIMIT) (terminals_of s xs) d) (unique.one_list s us ts u t) e)
 
-  of_call_run : (ts : List Token) → AreTokensOf s ts → (r : Answer) → IsCallAnswer LEVEL_LIMIT (end_of s) (terminals_of s ts) (call_read r) → IsCall s (as_call r)
+  of_call_run : (ts : List Token) → AreTokensOf s ts → (r : Answer) → G.IsCallAnswer LEVEL_LIMIT (end_of s) (terminals_of s ts) (call_read r) → IsCall s (as_call r)
   of_call_run ts t (Ok vs) h = ((ts, t, h), λ d g. of_derived_call ts t _ d h g)
   of_call_run ts t (Err (f, p)) h = (no_call ts p t h.0, λ d g. of_no_call ts t h.1 d g)
 
@@ -110,5 +119,12 @@ pub only_call : (s : List ℕ) (r : Result Call CallRefusal) → FoundCall (call
 only_call s (Ok c) h = (is_call s (Ok c) h).1
 only_call s (Err (CallRefusal.Refused p)) h = (is_call s (Err p) h).1
 only_call s (Err CallRefusal.Memory) h = tt
+
+pub some_call_answer : SomeCallAnswer
+some_call_answer s = (call_of s, as_answer s (call_of s) (call_found s))
+  where
+    as_answer : (s : List ℕ) (r : Result Call Place) → IsCall s r → IsCallAnswer s r
+    as_answer s (Ok c) h = h.0
+    as_answer s (Err p) h = h
 
 pub ruleset answering = (answered, only, call_answered, only_call)

@@ -2,5 +2,6 @@
 pub mod Answering
 pub mod Ranges
 pub mod Running
+mod Tables
 pub mod Texts
 pub mod Unique

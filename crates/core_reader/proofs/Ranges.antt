@@ -1,4 +1,4 @@
--- What is read of a text is well formed: the numbers of its terminals are in their range.
+-- What is read of a text is well formed, and arguments are constants: the numbers of its terminals are in their range.
 use Rattle.std.proofs.Common.{◌≡◌, ℕ, ℤ, pos, negsuc, Bool, true, false, ◌&&◌, ◌==◌, List, [], ◌∷◌, All, Option, Some, None, Result, Ok, Err, arith, refl, ap, sym, ◌∙◌, subst}
 use Rattle.std.specs.Prelude.{nat_abs, if◌then◌else◌, IfOk}
 use Rattle.std.specs.Char.{IsScalar}
@@ -6,6 +6,8 @@ use lib.Utf8.{scalar, scalar_fits}
 use Rattle.std.specs.Str.{all_scalars}
 use Rattle.std.proofs.lemmas.Bool.Decides.{nat_tests}
 use Rattle.std.proofs.lemmas.List.Elements.{All-head, All-tail}
+use Rattle.hipe_terms.specs.declared.constant.Call.{Call}
+use Rattle.hipe_terms.specs.Constants.{AreConstants}
 use Rattle.hipe_terms.specs.Range.{is_in_range}
 use Rattle.core_text.specs.Bytes.{is_digit, begins}
 use Rattle.core_token.specs.declared.token.Sort.{Sort}
@@ -20,14 +22,15 @@ use Rattle.core_ast.specs.WellFormed.{IsWellFormed}
 use Rattle.core_grammar.specs.declared.terminal.Kind.{Kind}
 use Rattle.core_grammar.specs.Language.{limit}
 use Rattle.core_grammar.specs.Ranges.{kind_in_range, code_points_in_range, terminals_in_range}
-use Rattle.core_grammar.proofs.WellFormed.{derived_are_well_formed}
+use Rattle.core_grammar.proofs.WellFormed.{derived_are_well_formed, derived_arguments_are_constants}
 use Rattle.core_reader.specs.declared.refusal.ReadRefusal.{ReadRefusal}
+use Rattle.core_reader.specs.declared.refusal.CallRefusal.{CallRefusal}
 use Rattle.core_reader.specs.Terminals.{kind_of, number_of, or_zero, or_nul, terminals_of}
 use Rattle.core_reader.specs.declared.limit.TheConstants.{LEVEL_LIMIT}
-use Rattle.core_reader.specs.Language.{Reads}
-use Rattle.core_reader.specs.Reading.{Found}
+use Rattle.core_reader.specs.Language.{Reads, ReadsCall}
+use Rattle.core_reader.specs.Reading.{Found, FoundCall}
 use Rattle.core_reader.specs.Reading as R
-use Rattle.core_reader.proofs.Answering.{answered}
+use Rattle.core_reader.proofs.Answering.{answered, call_answered}
 
 -- ---- integers
 
@@ -107,4 +110,13 @@ pub well_formed : (s : List ℕ) (r : Result Module ReadRefusal) → Found (R.mo
 well_formed s (Ok m) h = reads_well_formed s m (answered s (Ok m) h)
 well_formed s (Err e) h = tt
 
-pub ruleset ranges = (well_formed)
+-- ---- calls
+
+reads_constants : (s : List ℕ) (c : Call) → ReadsCall s c → AreConstants c.args
+reads_constants s c (ts, tokens, derived) = derived_arguments_are_constants (limit LEVEL_LIMIT) (terminals_of s ts) c (terminals_fit s ts (stand s ts tokens)) derived
+
+pub constants : (s : List ℕ) (r : Result Call CallRefusal) → FoundCall (R.call_of s) r → IfOk r (λ c. AreConstants c.args)
+constants s (Ok c) h = reads_constants s c (call_answered s (Ok c) h)
+constants s (Err e) h = tt
+
+pub ruleset ranges = (well_formed, constants)

@@ -1,17 +1,19 @@
--- A text reads as one module, or is refused for one reason.
-use Rattle.std.proofs.Common.{◌≡◌, ℕ, List, Result, Err, refl, ap, ◌∙◌, subst}
+-- A text reads as one module or is refused for one reason, and as one call or is none at one place.
+use Rattle.std.proofs.Common.{◌≡◌, ℕ, List, Result, Ok, Err, refl, ap, ◌∙◌, subst}
+use Rattle.hipe_terms.specs.declared.constant.Call.{Call}
 use Rattle.hipe_terms.specs.declared.place.Place.{Place}
 use Rattle.core_token.specs.declared.token.TokenKind.{TokenKind}
 use Rattle.core_token.proofs.Cuts.{unique}
 use Rattle.core_ast.specs.declared.tree.Module.{Module}
 use Rattle.core_grammar.specs.declared.fault.Fault.{Fault}
-use Rattle.core_grammar.specs.Language.{limit, Derives, Refused}
-use Rattle.core_parser.proofs.OneAnswer.{one_answer}
-use Rattle.core_parser.proofs.Modules.{one_module}
+use Rattle.core_grammar.specs.Language.{limit, Derives, DerivesCall, Refused, RefusedCall}
+use Rattle.core_parser.proofs.OneAnswer as M
+use Rattle.core_parser.proofs.Modules.{one_module, one_call}
 use Rattle.core_reader.specs.declared.limit.TheConstants.{LEVEL_LIMIT}
 use Rattle.core_reader.specs.declared.refusal.ReadRefusal.{ReadRefusal}
 use Rattle.core_reader.specs.Terminals.{terminals_of}
-use Rattle.core_reader.specs.Language.{end_of, token_refusal, fault_refusal, Reads, ReadsNone, IsRefusedAs, no_tokens, no_module}
+use Rattle.core_reader.specs.Language.{end_of, token_refusal, fault_refusal, Reads, ReadsNone, IsRefusedAs, no_tokens, no_module, ReadsCall, IsNoCall, no_call_tokens, no_call}
+use Rattle.core_reader.specs.Laws.{OneAnswer, OneCallAnswer}
 
 pub one_reading : (s : List ℕ) (m n : Module) → Reads s m → Reads s n → m ≡ n
 one_reading s m n (ts, t, d) (us, u, e) =
@@ -33,5 +35,33 @@ one_refusal s none _ _ (no_module ts f p t r) (no_tokens l q g) = absurd (unique
 one_refusal s none _ _ (no_module ts f p t r) (no_module us g q u o) =
     let same : Refused LEVEL_LIMIT (end_of s) (terminals_of s ts) g q = subst (λ xs. Refused LEVEL_LIMIT (end_of s) (terminals_of s xs) g q) (unique.one_list s us ts u t) o in
     let not_derived : (m : Module) → Derives (limit LEVEL_LIMIT) (terminals_of s ts) m → ⊥ = λ m d. none m (ts, t, d) in
-    let two = parts f g p q (Err (f, p)) (Err (g, q)) refl refl (one_answer LEVEL_LIMIT (end_of s) (terminals_of s ts) (Err (f, p)) (Err (g, q)) (r, not_derived) (same, not_derived)) in
+    let two = parts f g p q (Err (f, p)) (Err (g, q)) refl refl (M.one_answer LEVEL_LIMIT (end_of s) (terminals_of s ts) (Err (f, p)) (Err (g, q)) (r, not_derived) (same, not_derived)) in
     same_stop f g p q two.0 two.1
+
+pub one_answer : OneAnswer
+one_answer s (Ok m) (Ok n) a b = ap (λ x. Ok x) (one_reading s m n a b)
+one_answer s (Ok m) (Err e) a b = absurd (b.1 m a)
+one_answer s (Err e) (Ok n) a b = absurd (a.1 n b)
+one_answer s (Err e) (Err f) a b = ap (λ x. Err x) (one_refusal s a.1 e f a.0 b.0)
+
+pub one_reading_of_call : (s : List ℕ) (c d : Call) → ReadsCall s c → ReadsCall s d → c ≡ d
+one_reading_of_call s c d (ts, t, x) (us, u, y) =
+    one_call (limit LEVEL_LIMIT) (terminals_of s ts) c d x (subst (λ xs. DerivesCall (limit LEVEL_LIMIT) (terminals_of s xs) d) (unique.one_list s us ts u t) y)
+
+call_place : (p q : Place) (a b : Result Call Place) → a ≡ Err p → b ≡ Err q → a ≡ b → p ≡ q
+call_place p q a b d e h = cc
+
+pub one_place_of_no_call : (s : List ℕ) → ((c : Call) → ReadsCall s c → ⊥) → (p q : Place) → IsNoCall s p → IsNoCall s q → p ≡ q
+one_place_of_no_call s none p q (no_call_tokens k _ h) (no_call_tokens l _ g) = (unique.one_fault s k l p q h g).1
+one_place_of_no_call s none p q (no_call_tokens k _ h) (no_call us _ u r) = absurd (unique.not_both s us k p u h)
+one_place_of_no_call s none p q (no_call ts _ t r) (no_call_tokens l _ g) = absurd (unique.not_both s ts l q t g)
+one_place_of_no_call s none p q (no_call ts _ t r) (no_call us _ u o) =
+    let same : RefusedCall LEVEL_LIMIT (end_of s) (terminals_of s ts) q = subst (λ xs. RefusedCall LEVEL_LIMIT (end_of s) (terminals_of s xs) q) (unique.one_list s us ts u t) o in
+    let not_derived : (c : Call) → DerivesCall (limit LEVEL_LIMIT) (terminals_of s ts) c → ⊥ = λ c d. none c (ts, t, d) in
+    call_place p q (Err p) (Err q) refl refl (M.one_call_answer LEVEL_LIMIT (end_of s) (terminals_of s ts) (Err p) (Err q) (r, not_derived) (same, not_derived))
+
+pub one_call_answer : OneCallAnswer
+one_call_answer s (Ok c) (Ok d) a b = ap (λ x. Ok x) (one_reading_of_call s c d a b)
+one_call_answer s (Ok c) (Err p) a b = absurd (b.1 c a)
+one_call_answer s (Err p) (Ok d) a b = absurd (a.1 d b)
+one_call_answer s (Err p) (Err q) a b = ap (λ x. Err x) (one_place_of_no_call s a.1 p q a.0 b.0)

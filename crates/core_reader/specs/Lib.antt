@@ -1,4 +1,5 @@
 -- What contracts say of the reader.
 pub mod Language
+pub mod Laws
 pub mod Reading
 pub mod Terminals

@@ -1,10 +1,11 @@
 // The reader of Core Erlang.
 //
 // `read_module` reads the text of a module of the profile, and `read_call` a call from outside. Each promises the one tree that
-// the text has, with the places of its parts, or its first fault with its place. Both take time in proportion to the text, and
-// no stack in proportion to it.
+// the text has, with the places of its parts, or its first fault with its place. Both are written to take time in proportion to the
+// text, and stack only by its levels; no contract says it.
 //
 // Files:
+//   law.rt        each text has one answer
 //   limit.rt      the limit of levels
 //   refusal.rt    why a text isn't read
 //   mark.rt       words and signs
@@ -13,6 +14,7 @@
 //   read.rt       modules and calls
 #![tactic(auto)]
 
+pub mod law;
 pub mod limit;
 mod mark;
 mod read;
@@ -20,6 +22,7 @@ mod refusal;
 mod run;
 mod terminal;
 
+pub use law::{one_answer, one_call_answer};
 pub use limit::LEVEL_LIMIT;
 pub use read::{read_call, read_module};
 pub use refusal::{CallRefusal, ReadRefusal};

@@ -1,15 +1,64 @@
 // Words and signs.
 
-ghost use Rattle.std.specs.Prelude.{◌≡◌, nat_eq};
-ghost use Rattle.std.specs.Cmp.Lexicographic.{pointwise};
-ghost use Rattle.core_reader.specs.Terminals.{word_of, sign_of};
+ghost use Rattle.std.specs.Prelude.{◌≡◌, map};
+ghost use Rattle.core_reader.specs.Terminals.{mark_in, word_of, sign_of};
 
 use core_grammar::Mark;
 
-fn is(bytes: &[u8], spelling: &[u8]) -> bool
-    ensures { result ≡ pointwise nat_eq bytes.now spelling.now }
+// The words of the language with their marks, as its definition lists them.
+const WORDS: [(&[u8], Mark); 19] = [
+    (b"after", Mark::After),
+    (b"apply", Mark::Apply),
+    (b"attributes", Mark::Attributes),
+    (b"call", Mark::Call),
+    (b"case", Mark::Case),
+    (b"catch", Mark::Catch),
+    (b"do", Mark::Do),
+    (b"end", Mark::End),
+    (b"fun", Mark::Fun),
+    (b"in", Mark::In),
+    (b"let", Mark::Let),
+    (b"letrec", Mark::Letrec),
+    (b"module", Mark::Module),
+    (b"of", Mark::Of),
+    (b"primop", Mark::Primop),
+    (b"receive", Mark::Receive),
+    (b"timeout", Mark::Timeout),
+    (b"try", Mark::Try),
+    (b"when", Mark::When),
+];
+
+// The signs of the language with their marks.
+const SIGNS: [(&[u8], Mark); 17] = [
+    (b"(", Mark::OpenRound),
+    (b")", Mark::CloseRound),
+    (b"{", Mark::OpenBrace),
+    (b"}", Mark::CloseBrace),
+    (b"[", Mark::OpenSquare),
+    (b"]", Mark::CloseSquare),
+    (b"<", Mark::Less),
+    (b">", Mark::Greater),
+    (b",", Mark::Comma),
+    (b"=", Mark::Equals),
+    (b"/", Mark::Slash),
+    (b":", Mark::Colon),
+    (b"|", Mark::Bar),
+    (b"#", Mark::Hash),
+    (b"~", Mark::Tilde),
+    (b"->", Mark::Arrow),
+    (b"-|", Mark::Dash),
+];
+
+// The mark of the row that these bytes spell.
+fn mark_in(rows: &[(&[u8], Mark)], bytes: &[u8]) -> Mark
+    ensures { result ≡ mark_in (map (λ row. (row.0.now, row.1)) rows.now) bytes.now }
 {
-    bytes == spelling
+    for row in rows {
+        if bytes == row.0 {
+            return row.1;
+        }
+    }
+    Mark::After
 }
 
 /// The mark of a word.
@@ -17,64 +66,7 @@ fn is(bytes: &[u8], spelling: &[u8]) -> bool
 pub fn word_of(bytes: &[u8]) -> Mark
     ensures { result ≡ word_of bytes.now }
 {
-    if is(bytes, b"after") {
-        return Mark::After;
-    }
-    if is(bytes, b"apply") {
-        return Mark::Apply;
-    }
-    if is(bytes, b"attributes") {
-        return Mark::Attributes;
-    }
-    if is(bytes, b"call") {
-        return Mark::Call;
-    }
-    if is(bytes, b"case") {
-        return Mark::Case;
-    }
-    if is(bytes, b"catch") {
-        return Mark::Catch;
-    }
-    if is(bytes, b"do") {
-        return Mark::Do;
-    }
-    if is(bytes, b"end") {
-        return Mark::End;
-    }
-    if is(bytes, b"fun") {
-        return Mark::Fun;
-    }
-    if is(bytes, b"in") {
-        return Mark::In;
-    }
-    if is(bytes, b"let") {
-        return Mark::Let;
-    }
-    if is(bytes, b"letrec") {
-        return Mark::Letrec;
-    }
-    if is(bytes, b"module") {
-        return Mark::Module;
-    }
-    if is(bytes, b"of") {
-        return Mark::Of;
-    }
-    if is(bytes, b"primop") {
-        return Mark::Primop;
-    }
-    if is(bytes, b"receive") {
-        return Mark::Receive;
-    }
-    if is(bytes, b"timeout") {
-        return Mark::Timeout;
-    }
-    if is(bytes, b"try") {
-        return Mark::Try;
-    }
-    if is(bytes, b"when") {
-        return Mark::When;
-    }
-    Mark::After
+    mark_in(&WORDS, bytes)
 }
 
 /// The mark of a sign.
@@ -82,56 +74,5 @@ pub fn word_of(bytes: &[u8]) -> Mark
 pub fn sign_of(bytes: &[u8]) -> Mark
     ensures { result ≡ sign_of bytes.now }
 {
-    if is(bytes, b"(") {
-        return Mark::OpenRound;
-    }
-    if is(bytes, b")") {
-        return Mark::CloseRound;
-    }
-    if is(bytes, b"{") {
-        return Mark::OpenBrace;
-    }
-    if is(bytes, b"}") {
-        return Mark::CloseBrace;
-    }
-    if is(bytes, b"[") {
-        return Mark::OpenSquare;
-    }
-    if is(bytes, b"]") {
-        return Mark::CloseSquare;
-    }
-    if is(bytes, b"<") {
-        return Mark::Less;
-    }
-    if is(bytes, b">") {
-        return Mark::Greater;
-    }
-    if is(bytes, b",") {
-        return Mark::Comma;
-    }
-    if is(bytes, b"=") {
-        return Mark::Equals;
-    }
-    if is(bytes, b"/") {
-        return Mark::Slash;
-    }
-    if is(bytes, b":") {
-        return Mark::Colon;
-    }
-    if is(bytes, b"|") {
-        return Mark::Bar;
-    }
-    if is(bytes, b"#") {
-        return Mark::Hash;
-    }
-    if is(bytes, b"~") {
-        return Mark::Tilde;
-    }
-    if is(bytes, b"->") {
-        return Mark::Arrow;
-    }
-    if is(bytes, b"-|") {
-        return Mark::Dash;
-    }
-    Mark::After
+    mark_in(&SIGNS, bytes)
 }

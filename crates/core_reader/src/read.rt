@@ -6,6 +6,7 @@ ghost use Rattle.core_ast.specs.WellFormed.{IsWellFormed};
 ghost use Rattle.core_parser.specs.Machine.{module_start, call_start};
 ghost use Rattle.core_reader.specs.Language.{end_of, token_refusal, fault_refusal, Answers, Only, AnswersCall, OnlyCall};
 ghost use Rattle.core_reader.specs.Reading.{module_of, Found, call_of, FoundCall};
+ghost use Rattle.hipe_terms.specs.Constants.{AreConstants};
 
 use crate::refusal::{CallRefusal, ReadRefusal};
 use crate::run::run;
@@ -99,8 +100,10 @@ fn found_module(alloc: Global, text: &[u8]) -> Result<Module, ReadRefusal>
 /// # Errors
 ///
 /// - `Token`, `WideInteger` or `LongAtom` exactly where the text has no tokens, at its first fault; this comes before the others.
-/// - `Syntax`, `NotInProfile` or `TooDeep` exactly where its tokens are no module, at the first token with which no module of
-///   levels up to 1,000 goes on. The end of the text counts as a last token.
+/// - `Syntax` or `NotInProfile` at the first token with which no module goes on, whatever its levels: `NotInProfile` where it is
+///   a float, `receive`, `#` or `~` and an integer could stand there, or a variable as the module or the name of a `call`.
+///   `TooDeep` at the first token with which a part of level 1,001 begins. The first of these tokens counts, and the end of the
+///   text is a last token, which is `Syntax`.
 /// - `Memory` where memory runs out.
 #[tactic(auto, using(crate::proofs::Answering::answering, crate::proofs::Ranges::ranges))]
 pub fn read_module(alloc: Global, text: &[u8]) -> Result<Module, ReadRefusal>
@@ -140,13 +143,16 @@ fn found_call(alloc: Global, text: &[u8]) -> Result<Call, CallRefusal>
 /// # Errors
 ///
 /// - `Refused` exactly where the text is no call, at the first fault of its tokens, or else at the first token with which no call
-///   of levels up to 1,000 and of at most 255 arguments goes on. The end of the text counts as a last token.
+///   goes on, with which a part of level 1,001 begins, or with which the 256th argument begins. The end of the text counts as a
+///   last token.
 /// - `Memory` where memory runs out.
-#[tactic(auto, using(crate::proofs::Answering::answering))]
+#[tactic(auto, using(crate::proofs::Answering::answering, crate::proofs::Ranges::ranges))]
 pub fn read_call(alloc: Global, text: &str) -> Result<Call, CallRefusal>
     requires short { length text.now < 2 ^ 32 }
     ensures answer { AnswersCall text.now result }
     ensures only { OnlyCall text.now result }
+    // What is read is as every call wants constants.
+    ensures constants { IfOk result (λ c. AreConstants c.args) }
 {
     found_call(alloc, text.as_bytes())
 }

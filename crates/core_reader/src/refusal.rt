@@ -16,13 +16,14 @@ pub enum ReadRefusal {
     /// An atom has more than 255 code points.
     #[error("LongAtom")]
     LongAtom { at: Place },
-    /// No module goes on with a token, or ends here.
+    /// No module goes on with a token, whatever its levels, or none ends here.
     #[error("Syntax")]
     Syntax { at: Place },
     /// A part of level 1,001 begins with a token.
     #[error("TooDeep")]
     TooDeep { at: Place },
-    /// A token stands for what Core Erlang has and the profile hasn't.
+    /// A token stands for what Core Erlang has and the profile hasn't: it is a float, `receive`, `#` or `~` where an integer
+    /// could stand, or a variable as the module or the name of a `call`.
     #[error("NotInProfile")]
     NotInProfile { at: Place },
     /// Memory ran out.

@@ -46,7 +46,7 @@ fn read(alloc: Global, text: &[u8]) -> Result<Module, ReadRefusal>
 }
 
 /// The module of a text.
-pub fn module(alloc: Global, text: &str) -> Answer {
+pub(crate) fn module(alloc: Global, text: &str) -> Answer {
     match read(alloc, text.as_bytes()) {
         Ok(m) => show_module(alloc, &m),
         Err(why) => refusal(alloc, why),
@@ -59,18 +59,18 @@ fn with_body(alloc: Global, body: &str) -> Answer {
 }
 
 /// The module with this body.
-pub fn body(alloc: Global, body: &str) -> Answer {
+pub(crate) fn body(alloc: Global, body: &str) -> Answer {
     module(alloc, with_body(alloc, body)?.as_str())
 }
 
 /// The module with a `case` of this clause.
-pub fn clause(alloc: Global, clause: &str) -> Answer {
+pub(crate) fn clause(alloc: Global, clause: &str) -> Answer {
     let text = format!(in alloc; "case 1 of {clause} end")?;
     body(alloc, text.as_str())
 }
 
 /// The call of a text.
-pub fn call(alloc: Global, text: &str) -> Answer {
+pub(crate) fn call(alloc: Global, text: &str) -> Answer {
     if text.len() > LONGEST {
         return String::from_str(alloc, "memory");
     }
@@ -114,7 +114,7 @@ fn listed(list: &mut String, token: &str) -> Result<(), AllocError> {
 }
 
 /// The tokens of the alphabet with which a text of ASCII on one line goes on, and those that the profile hasn't there.
-pub fn after(alloc: Global, alphabet: &str, front: &str) -> Answer {
+pub(crate) fn after(alloc: Global, alphabet: &str, front: &str) -> Answer {
     let mut going_on = String::new(alloc);
     let mut lacking = String::new(alloc);
     let mut other = String::new(alloc);
@@ -172,7 +172,7 @@ fn nested_of(rest: &str) -> Option<Repeated<'_>> {
 }
 
 /// Whether a body is read that has the same texts so many times, or where it is refused.
-pub fn nested(alloc: Global, rest: &str) -> Answer {
+pub(crate) fn nested(alloc: Global, rest: &str) -> Answer {
     let Some(parts) = nested_of(rest) else {
         return String::from_str(alloc, "no texts");
     };
@@ -209,7 +209,7 @@ fn same_again(alloc: Global, m: &Module) -> Answer
 }
 
 /// The module of a text without its places, and whether it is the same when it is printed and read again.
-pub fn again(alloc: Global, text: &str) -> Answer {
+pub(crate) fn again(alloc: Global, text: &str) -> Answer {
     match read(alloc, text.as_bytes()) {
         Ok(m) => same_again(alloc, &m),
         Err(why) => refusal(alloc, why),
@@ -217,7 +217,7 @@ pub fn again(alloc: Global, text: &str) -> Answer {
 }
 
 /// The module of a text, printed.
-pub fn printed(alloc: Global, text: &str) -> Answer {
+pub(crate) fn printed(alloc: Global, text: &str) -> Answer {
     let m = match read(alloc, text.as_bytes()) {
         Ok(m) => m,
         Err(why) => return refusal(alloc, why),

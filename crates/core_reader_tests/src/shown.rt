@@ -279,7 +279,7 @@ fn definitions(alloc: Global, defs: &[FunDef], text: &mut String) -> Shown {
 }
 
 /// A module.
-pub fn show_module(alloc: Global, m: &Module) -> Result<String, AllocError> {
+pub(crate) fn show_module(alloc: Global, m: &Module) -> Result<String, AllocError> {
     let mut text = String::new(alloc);
     atom(m.name.as_str(), &mut text)?;
     text.push_str("[")?;
@@ -301,7 +301,7 @@ pub fn show_module(alloc: Global, m: &Module) -> Result<String, AllocError> {
 }
 
 /// A call.
-pub fn show_call(alloc: Global, call: &Call) -> Result<String, AllocError> {
+pub(crate) fn show_call(alloc: Global, call: &Call) -> Result<String, AllocError> {
     let mut text = String::new(alloc);
     atom(call.name.as_str(), &mut text)?;
     text.push_str("(")?;
@@ -311,7 +311,7 @@ pub fn show_call(alloc: Global, call: &Call) -> Result<String, AllocError> {
 }
 
 /// A shown tree without its places: each `@`, the digits of a line, `:` and the digits of a column behind it.
-pub fn without_places(alloc: Global, shown: &str) -> Result<String, AllocError> {
+pub(crate) fn without_places(alloc: Global, shown: &str) -> Result<String, AllocError> {
     let mut text = String::new(alloc);
     let mut in_place = false;
     for c in shown.chars() {

@@ -1,0 +1,16 @@
+// What holds of all texts.
+
+ghost use Rattle.core_reader.specs.Laws.{SomeAnswer, OneAnswer, SomeCallAnswer, OneCallAnswer};
+
+/// A text reads as one module, places included, or it is refused, and where it is refused it reads as no module, the refusal
+/// and its place are one.
+pub fn one_answer()
+    ensures some { SomeAnswer }
+    ensures one { OneAnswer }
+{}
+
+/// A text reads as one call or is none, at one place.
+pub fn one_call_answer()
+    ensures some { SomeCallAnswer }
+    ensures one { OneCallAnswer }
+{}
