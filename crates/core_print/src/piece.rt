@@ -9,8 +9,8 @@ use core_ast::{FunName, VariableName};
 use hipe_terms::{Atom, Constant, Memory, show_atom, show_onto};
 use std::alloc::Global;
 
-/// Lines are indented by at most so many levels: the text of a tree then is at most about so many times as long as the
-/// tree, however deep it is.
+/// Lines are indented by at most so many levels, so that the text of a deep tree doesn't grow with the square of its depth.
+/// No contract says how long a text is.
 pub const INDENTATION_LIMIT: u8 = 20;
 
 // The next level.

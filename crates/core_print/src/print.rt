@@ -13,8 +13,9 @@ use hipe_terms::{Atom, Constant, Memory, Place};
 use std::alloc::Global;
 
 /// The text of a module in UTF-8, of the grammar of Core Erlang 1.0.3: each part on a line of its own where it begins a
-/// block, indented by two spaces a level, and without annotations. An error where there is no memory for it. It takes time
-/// in proportion to the text, and its depth is the module's nesting.
+/// block, indented by two spaces a level, and without annotations. An error where there is no memory for it. That its time
+/// goes by the length of the text, and its depth by the nesting of the module, is how the code is written, and no contract
+/// says it.
 #[tactic(auto, using(crate::proofs::Printing::module_prints))]
 pub fn print_module(alloc: Global, m: &Module) -> Result<Vec<u8>, Memory>
     requires { IsWellFormed (module_of m.now) }

@@ -2,6 +2,7 @@
 mod TreeKinds
 mod Fits
 mod Made
+mod Placeless
 mod Readings
 mod PatternReading
 mod ExpressionReading

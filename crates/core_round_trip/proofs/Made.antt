@@ -68,7 +68,7 @@ expression_list_made p es e _ is h = expression_made p (Node-F.List es e)
 pub cells_made : (p : Place) (es : List Expr) (e : Expr) → is_list (T.expression_of e) ≡ false → T.expression_of (cells p es e) ≡ T.Expression.Cons p (plain_expressions es) (T.expression_of e)
 cells_made p es e h = expression_list_made p es e (out-Node e.node) refl h
 
-placeless_list : (e : T.Expression) → is_list (placeless e) ≡ is_list e
+pub placeless_list : (e : T.Expression) → is_list (placeless e) ≡ is_list e
 placeless_list (T.Expression.Int p n) = refl
 placeless_list (T.Expression.Atom p a) = refl
 placeless_list (T.Expression.Nil p) = refl

@@ -1,5 +1,5 @@
 -- What is printed reads back.
-use Rattle.std.proofs.Common.{◌≡◌, ℕ, List, true, Result, Ok, Err, IfOk, IfErr, refl, subst}
+use Rattle.std.proofs.Common.{◌≡◌, ℕ, List, true, Result, Ok, Err, IfOk, IfErr, refl, ◌∙◌, subst}
 use Rattle.core_text.specs.Places.{start}
 use Rattle.core_token.specs.declared.token.Token.{Token}
 use Rattle.core_token.specs.Text.{AreTokensOf}
@@ -17,6 +17,7 @@ use Rattle.core_reader.specs.Terminals.{terminals_of}
 use Rattle.core_reader.specs.Language.{Answers, Only, Reads, ReadsNone}
 use Rattle.core_round_trip.specs.Laws.{IsOfText, ReadsBack, PrintedReadsBack}
 use Rattle.core_round_trip.proofs.Fits.{ModuleFits}
+use Rattle.core_round_trip.proofs.Placeless.{same_printed, same_formed}
 use Rattle.core_round_trip.proofs.Derived.{module_fits}
 use Rattle.core_round_trip.proofs.ModuleReading.{module_reading}
 use Rattle.core_round_trip.proofs.PrintedKinds.{printed_kinds}
@@ -38,11 +39,18 @@ of_text s m ts t d =
     let good = tokens_good s ts t in
     (derived_are_well_formed (limit LEVEL_LIMIT) (terminals_of s ts) m (goods_in_range (terminals_of s ts) good) d, module_fits LEVEL_LIMIT m (terminals_of s ts) d good)
 
+read_back : (s : List ℕ) (m : Module) → Reads s m → ReadsBack (printed (module_of m)) m
+read_back s m (ts, t, d) = let h = of_text s m ts t d in fits_back m (attributes_well_formed m h.0) h.1
+
+-- a text reads back as a module, and so as another of the same tree
+of_same : (s : List ℕ) (m n : Module) → SameTree m n → ReadsBack s m → ReadsBack s n
+of_same s m n e (o, r, f) = (o, r, f ∙ e)
+
 pub well_formed : (m : Module) → IsOfText m → IsWellFormed (module_of m)
-well_formed m (s, (ts, t, d)) = (of_text s m ts t d).0
+well_formed m (s, n, (ts, t, d), e) = same_formed n m e (of_text s n ts t d).0
 
 pub reads_back : PrintedReadsBack
-reads_back m (s, (ts, t, d)) = let h = of_text s m ts t d in fits_back m (attributes_well_formed m h.0) h.1
+reads_back m (s, n, r, e) = subst (λ text. ReadsBack text m) (same_printed n m e) (of_same (printed (module_of n)) n m e (read_back s n r))
 
 -- ---- what the reader answers on the printed text
 
@@ -51,7 +59,7 @@ read_so m (Ok n) h = h
 read_so m (Err e) h = tt
 
 pub answer_of_text : (s : List ℕ) (m : Module) → Answers s (Ok m) → IsOfText m
-answer_of_text s m h = (s, h)
+answer_of_text s m h = (s, m, h, refl)
 
 same : (s : List ℕ) (m n : Module) → ReadsBack s m → Only s (Ok n) → SameTree n m
 same s m n (o, r, e) only = subst (λ x. SameTree x m) (only o r) e

@@ -6,14 +6,14 @@ use Rattle.core_ast.specs.SameTree.{SameTree}
 use Rattle.core_print.specs.Printed.{printed}
 use Rattle.core_reader.specs.Language.{Reads}
 
--- some text reads as this module
+-- some text reads as this module, places aside
 abbrev pub IsOfText : Module → Type 0
-IsOfText m = (s : List ℕ) × Reads s m
+IsOfText m = (s : List ℕ) × (n : Module) × Reads s n × SameTree n m
 
 -- a text reads as a module that differs from this one in places alone
 abbrev pub ReadsBack : List ℕ → Module → Type 0
 ReadsBack s m = (n : Module) × Reads s n × SameTree n m
 
--- where some text reads as a module, the text that it is printed as reads back
+-- where some text reads as a module, places aside, the text that it is printed as reads back
 abbrev pub PrintedReadsBack : Type 0
 PrintedReadsBack = (m : Module) → IsOfText m → ReadsBack (printed (module_of m)) m

@@ -14,8 +14,8 @@ use core_reader::{ReadRefusal, read_module};
 use std::alloc::Global;
 
 /// The module that the printed text of a module reads as: it differs from the module in the places of its parts alone. It can
-/// be called with what `read_module` gives, and with what it gives itself, where the printed text, as `print_module` gives it,
-/// is shorter than 2^32 bytes.
+/// be called with what `read_module` gives, with what it gives itself, and with what differs from these in places alone, where
+/// the printed text, as `print_module` gives it, is shorter than 2^32 bytes.
 ///
 /// # Errors
 ///

@@ -8,7 +8,7 @@ use core_reader::{ReadRefusal, read_module};
 use std::alloc::Global;
 use std::test::Fail;
 
-// As `erlc +to_core` writes it.
+// After the form of `erlc +to_core`.
 const FACTORIAL: &[u8] = b"module 'fact' ['fact'/1,
                'module_info'/0,
                'module_info'/1]
