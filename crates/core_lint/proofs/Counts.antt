@@ -1,5 +1,5 @@
 -- What the walk that counts needs to know of trees and degrees.
-use Rattle.std.proofs.Common.{◌≡◌, ℕ, List, [], ◌∷◌, map, length, Option, Some, None, refl, ap, ◌∙◌, suc, add-one}
+use Rattle.std.proofs.Common.{◌≡◌, ℕ, List, [], ◌∷◌, map, length, Option, Some, None, refl, ap, ◌∙◌, suc}
 use Rattle.hipe_terms.specs.declared.place.Place.{Place}
 use Rattle.core_ast.specs.declared.pattern.Pattern as RustPattern
 use Rattle.core_ast.specs.declared.tree.Expr.{Expr}

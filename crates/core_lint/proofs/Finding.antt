@@ -1,8 +1,7 @@
 -- The walk through the scopes finds what the rules on names say is broken.
-use Rattle.std.proofs.Common.{◌≡◌, ℕ, zero, suc, ◌+◌, Bool, true, false, not, ◌&&◌, ◌||◌, nat_eq, List, [], ◌∷◌, ◌++◌, map, length, drop, Option, Some, None, arith, refl, ap, sym, ◌∙◌, subst, bytes_eq}
+use Rattle.std.proofs.Common.{◌≡◌, ℕ, ◌+◌, Bool, true, false, not, ◌&&◌, List, [], ◌∷◌, ◌++◌, map, length, drop, Option, Some, None, arith, refl, ap, sym, ◌∙◌, bytes_eq}
 use Rattle.std.specs.List.{list_any}
 use Rattle.std.proofs.lemmas.List.{map-append}
-use Rattle.std.proofs.Math.Seq.{drop-append_seam}
 use Rattle.hipe_terms.specs.declared.place.Place.{Place}
 use Rattle.core_ast.specs.declared.pattern.Var.{Var}
 use Rattle.core_ast.specs.declared.tree.FunName.{FunName}
@@ -12,13 +11,13 @@ use Rattle.core_ast.specs.declared.rule.Rule.TheVariants.{DuplicateFunction, Exp
 use Rattle.core_ast.specs.Trees.{Expression, Expressions, no_expression, and_expression, Clauses, no_clause, and_clause, Definitions, no_definition, and_definition, Module}
 use Rattle.core_ast.specs.Names.{Names, is_named, has_variable, has_function, with_variables, with_functions, defined, variables_of_all}
 use Rattle.core_ast.specs.Part.{Part}
-use Rattle.core_ast.specs.Parts.{Scoped, parts, parts_of_all, parts_of_clauses, parts_of_definitions, parts_of_module, names_of}
+use Rattle.core_ast.specs.Parts.{parts, parts_of_all, parts_of_clauses, parts_of_definitions, parts_of_module, names_of}
 use Rattle.core_ast.specs.Rules.{unless, repeated, repeated_variables, repeated_functions}
 use Rattle.core_ast.specs.First.{broken_at, noted_all}
 use Rattle.core_ast.proofs.Firsts.{occurs, occurs-append, noted_all-append}
 use Rattle.core_ast.proofs.Spots.{hits, hits-append}
 use Rattle.core_lint.specs.declared.walk.Walk.{Walk}
-use Rattle.core_lint.specs.Keys.{Key, same_key}
+use Rattle.core_lint.specs.Keys.{same_key}
 use Rattle.core_lint.specs.Noted.{noted_unless}
 use Rattle.core_lint.specs.Entries.{Entry, variable_key, function_key, variable_entries, function_entries, entered, repeats}
 use Rattle.core_lint.specs.Walks.{used_variable, used_function, bound, within, within_functions, visited, visited_all, visited_clauses, visited_definitions, visited_exports, visited_module}

@@ -1,5 +1,5 @@
 -- The room for nodes.
-use Rattle.std.proofs.Common.{◌≡◌, ◌≢◌, ℕ, ◌+◌, ◌-◌, Bool, true, false, not, nat_eq, nat_lt, arith, refl}
+use Rattle.std.proofs.Common.{◌≡◌, ℕ, ◌+◌, ◌-◌, not, nat_eq, nat_lt, arith}
 use Rattle.std.proofs.lemmas.Bool.Decides.{nat_tests}
 use Rattle.core_ast.specs.declared.limits.TheConstants.{NODE_LIMIT}
 use Rattle.core_ast.proofs.Levels.{levels}

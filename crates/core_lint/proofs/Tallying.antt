@@ -1,5 +1,5 @@
 -- The walk that counts finds what the rules on degrees, arities, primitive operations and sizes say is broken.
-use Rattle.std.proofs.Common.{◌≡◌, ℕ, zero, suc, ◌+◌, ◌-◌, ◌<◌, Bool, true, false, not, ◌||◌, nat_eq, nat_lt, List, [], ◌∷◌, ◌++◌, map, length, length-append, take, drop, Option, Some, None, arith, refl, ap, sym, ◌∙◌, subst}
+use Rattle.std.proofs.Common.{◌≡◌, ℕ, zero, suc, ◌+◌, ◌-◌, Bool, true, false, not, ◌||◌, nat_eq, nat_lt, List, [], ◌∷◌, ◌++◌, map, length, length-append, Option, Some, None, arith, refl, ap, sym, ◌∙◌}
 use Rattle.std.proofs.lemmas.Bool.Decides.{nat_tests}
 use Rattle.std.proofs.lemmas.List.{append_assoc, append-nil}
 use Rattle.hipe_terms.specs.declared.place.Place.{Place}
@@ -15,14 +15,13 @@ use Rattle.core_ast.specs.Names.{Names, with_variables, with_functions, variable
 use Rattle.core_ast.specs.Places.{place_of, funs, funs_of_all, funs_of_clauses, funs_of_definitions}
 use Rattle.core_ast.specs.Degrees.{count, count_patterns, first_degree, degree_of, degree_of_bodies, fits, misfit, misfits, one_each, agreeing, agreeing_bodies, needs_of_clauses, needs_in}
 use Rattle.core_ast.specs.Part.{Part}
-use Rattle.core_ast.specs.Parts.{Scoped, parts, parts_of_all, parts_of_clauses, parts_of_definitions, parts_of_module, names_of}
-use Rattle.core_ast.specs.Rules.{unless, beyond_nodes, first_beyond, is_primop, miscounted_causes, degree}
+use Rattle.core_ast.specs.Parts.{parts, parts_of_all, parts_of_clauses, parts_of_definitions, parts_of_module, names_of}
+use Rattle.core_ast.specs.Rules.{unless, beyond_nodes, first_beyond, is_primop, miscounted_causes}
 use Rattle.core_ast.specs.First.{broken_at, noted_all}
 use Rattle.core_ast.proofs.Firsts.{occurs, occurs-append, noted_all-append}
 use Rattle.core_ast.proofs.Spots.{hits, hits-append}
 use Rattle.core_lint.specs.declared.tally.Tally.{Tally}
-use Rattle.core_lint.specs.Noted.{noted_unless}
-use Rattle.core_lint.specs.Tallies.{tested, needed, limited, begun, caught, agreed, tallied, tallied_each, tallied_clauses, tallied_definitions, tallied_exports, sized, tallied_module}
+use Rattle.core_lint.specs.Tallies.{tested, begun, caught, agreed, tallied, tallied_each, tallied_clauses, tallied_definitions, tallied_exports, sized, tallied_module}
 use Rattle.core_lint.proofs.Totals.{total, total-append, count_hits}
 use Rattle.core_lint.proofs.Counts.{first_degree-None, first_degree-assoc}
 use Rattle.core_lint.proofs.Finding.{noted_unless_is}

@@ -1,5 +1,5 @@
 -- How often something is broken in a list of parts, by groups of rules.
-use Rattle.std.proofs.Common.{◌≡◌, ℕ, ◌+◌, List, [], ◌∷◌, ◌++◌, arith, refl, ap, sym, ◌∙◌}
+use Rattle.std.proofs.Common.{◌≡◌, ℕ, ◌+◌, List, [], ◌∷◌, ◌++◌, arith}
 use Rattle.std.specs.List.{flat_map}
 use Rattle.core_ast.specs.declared.rule.Rule.{Rule}
 use Rattle.core_ast.specs.declared.rule.Broken.{Broken}
@@ -7,7 +7,6 @@ use Rattle.core_ast.specs.declared.rule.Rule.TheVariants.{DuplicateFunction, Exp
 use Rattle.core_ast.specs.Trees.{Module}
 use Rattle.core_ast.specs.Rules.{broken_by}
 use Rattle.core_ast.specs.Parts.{Scoped, parts_of_module}
-use Rattle.core_ast.specs.Good.{broken_in}
 use Rattle.core_ast.proofs.Spots.{hits, hits-append, hits_in}
 
 abbrev pub total : (Scoped → ℕ) → List Scoped → ℕ

@@ -1,5 +1,5 @@
 -- Names that are bound together, each with its place.
-use Rattle.std.specs.Prelude.{ℕ, suc, not, List, [], ◌∷◌, ◌++◌, map, Option, encode_utf8_all}
+use Rattle.std.specs.Prelude.{ℕ, not, List, [], ◌∷◌, ◌++◌, map, Option, encode_utf8_all}
 use Rattle.std.specs.List.{list_any}
 use Rattle.hipe_terms.specs.declared.place.Place.{Place}
 use Rattle.core_ast.specs.declared.pattern.Var.{Var}

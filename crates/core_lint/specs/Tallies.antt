@@ -1,5 +1,5 @@
 -- The walk that counts: values, parameters and arguments, functions, and nodes.
-use Rattle.std.specs.Prelude.{ℕ, ◌+◌, ◌-◌, ◌==◌, nat_lt, Bool, not, ◌||◌, if◌then◌else◌, List, [], ◌∷◌, length, Option, Some, None}
+use Rattle.std.specs.Prelude.{ℕ, ◌-◌, ◌==◌, nat_lt, Bool, not, ◌||◌, List, [], ◌∷◌, length, Option, Some, None}
 use Rattle.hipe_terms.specs.declared.place.Place.{Place}
 use Rattle.core_ast.specs.declared.limits.TheConstants.{ARITY_LIMIT, NODE_LIMIT}
 use Rattle.core_ast.specs.declared.pattern.Var.{Var}

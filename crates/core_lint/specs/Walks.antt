@@ -1,5 +1,5 @@
 -- The walk that keeps the names in scope: what is known before a part and behind it.
-use Rattle.std.specs.Prelude.{ℕ, List, [], ◌∷◌, ◌++◌, length, drop, Option}
+use Rattle.std.specs.Prelude.{ℕ, List, [], ◌∷◌, length, drop}
 use Rattle.std.specs.List.{list_any}
 use Rattle.hipe_terms.specs.declared.place.Place.{Place}
 use Rattle.core_ast.specs.declared.tree.FunName.{FunName}

@@ -4,8 +4,9 @@
 // first place in the text is answered, and at one place the first rule. The rules and what is broken where are definitions of
 // `core_ast`.
 //
-// Three walks go through a module. One keeps the names in scope, in maps; one counts values, parameters and functions; one
-// counts nodes. Each visits every part once, and goes down no deeper than the levels of the module.
+// Three walks go through a module. One keeps the names in scope, in ordered maps; one counts values, parameters and
+// functions; one counts nodes. That each visits every part once, and goes down no deeper than the levels of the module, is
+// how the code is written, and no contract says it.
 //
 // Files:
 //   refusal.rt    why a module isn't good

@@ -3,7 +3,7 @@
 use core_ast::Place;
 
 /// The name of a variable, with the arity 0, or that of a function. Variables and functions are kept apart elsewhere.
-#[derive(Clone, Copy, Debug, PartialEq, Eq, Hash)]
+#[derive(Clone, Copy, Debug, PartialEq, Eq, PartialOrd, Ord)]
 pub struct Name<'a> {
     pub text: &'a str,
     pub arity: u64,

@@ -4,7 +4,7 @@ use core_ast::{Place, Rule};
 use thiserror::Error;
 
 /// Why `lint` hands out no good module.
-#[derive(Debug, Drop, Error)]
+#[derive(Clone, Copy, Debug, PartialEq, Eq, Error)]
 pub enum LintRefusal {
     /// The first broken rule, and where it is broken.
     #[error("Broken")]

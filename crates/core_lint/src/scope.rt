@@ -1,20 +1,20 @@
 // The names in scope.
 
-ghost use Rattle.std.specs.Prelude.{◌≡◌, ◌≤◌, ◌∷◌, [], OnOk, drop, length, map};
+ghost use Rattle.std.specs.Prelude.{◌≡◌, ◌≤◌, ◌∷◌, [], OnOk, OnErr, drop, length, map};
 ghost use Rattle.std.specs.List.{list_any};
 ghost use Rattle.core_lint.specs.Keys.{same_key, key_of};
 ghost use Rattle.core_lint.specs.Entries.{entry_of, entered};
 
 use crate::name::{Bound, Name};
 use std::alloc::{AllocError, Global};
-use std::collections::HashMap;
+use std::collections::BTreeMap;
 use std::marker::Model;
 
 /// The names in scope. Contracts see them as a list, the innermost first.
 #[derive(Drop)]
 pub struct Scope<'a> {
     names: Vec<Name<'a>>,
-    counts: HashMap<Name<'a>, u64>,
+    counts: BTreeMap<Name<'a>, u64>,
 }
 
 impl<'a> Model for Scope<'a> {
@@ -36,7 +36,7 @@ impl<'a> Scope<'a> {
     {
         Scope {
             names: Vec::new(alloc),
-            counts: HashMap::new(alloc),
+            counts: BTreeMap::new(alloc),
         }
     }
 
@@ -49,7 +49,8 @@ impl<'a> Scope<'a> {
 
     /// Takes a name into scope, as the innermost.
     pub fn enter(&mut self, name: Name<'a>) -> Result<(), AllocError>
-        ensures { OnOk result (self.new ≡ key_of name.entry ∷ self.old) }
+        ensures entered { OnOk result (self.new ≡ key_of name.entry ∷ self.old) }
+        ensures err { OnErr result (self.new ≡ self.old) }
     {
         let count = self.counts.get(&name).copied().unwrap_or(0);
         self.names.push(name)?;

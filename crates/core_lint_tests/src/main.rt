@@ -4,7 +4,7 @@
 //   module TEXT          whether the module of a text is good, or its first broken rule and the place
 //   body TEXT            the same of a module of one function with this body, which begins at 1:58
 //   numbered N;A;B;C     the same of the body A, `B1`, `B2` up to `BN` with commas, C
-//   functions N          the same of a module of so many functions, each on a line of its own from the second on
+//   functions N;A        the same of a module of so many functions, each on a line of its own from the second on, and the text A
 //
 // The lines of `stdin` and `stdout` are made by `table`, which has the expected answers by hand.
 #![tactic(auto)]
@@ -104,16 +104,20 @@ fn numbered(alloc: Global, rest: &str) -> Answer {
     body(alloc, text.as_str())
 }
 
-// What it says of a module of so many functions.
+// What it says of a module of so many functions, and of those in the text behind them.
 fn functions(alloc: Global, rest: &str) -> Answer {
-    let Ok(count) = rest.parse::<u64>() else {
+    let Some((count, behind)) = rest.split_once(";") else {
+        return String::from_str(alloc, "no texts");
+    };
+    let Ok(count) = count.parse::<u64>() else {
         return String::from_str(alloc, "no number");
     };
     let mut text = String::from_str(alloc, "module 'm' [] attributes []\n")?;
     for i in 0..count {
         text.push_str(format!(in alloc; "'f{i}'/0 = fun () -> 1\n")?.as_str())?;
     }
-    text.push_str("end")?;
+    text.push_str(behind)?;
+    text.push_str(" end")?;
     module(alloc, text.as_str())
 }
 

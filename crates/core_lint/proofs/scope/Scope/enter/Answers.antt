@@ -19,5 +19,5 @@ invariant_of-self-else-is_err c =
     (c.unwrap_or-count.ensures ∙ ap (λ o. unwrap_or o 0) (c.copied.ensures ∙ c.get.ensures.value))
     (where_ok c.insert.result _ c.if-is_err.ensures.value c.insert.ensures.updates))
 
-pub returns : goal.returns
-returns c = ap keys c.in_ok-push.ensures.items ∙ keys-append c.self.inside.names.items c.args.name ∙ ap (λ ks. key_of c.args.name ∷ ks) c.self.view_is
+pub returns-clause-entered : goal.returns-clause-entered
+returns-clause-entered c = ap keys c.in_ok-push.ensures.items ∙ keys-append c.self.inside.names.items c.args.name ∙ ap (λ ks. key_of c.args.name ∷ ks) c.self.view_is
