@@ -1,0 +1,11 @@
+pub mod Words
+pub mod Having
+pub mod Shown
+pub mod Terms
+pub mod Growing
+pub mod Lists
+pub mod Built
+pub mod Placed
+pub mod Counted
+pub mod Shapes
+pub mod Written
