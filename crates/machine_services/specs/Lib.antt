@@ -1,0 +1,8 @@
+-- What contracts say of the services behind `syscall`.
+pub mod Comparing
+pub mod Pending
+pub mod Lists
+pub mod Ends
+pub mod Services
+pub mod Served
+pub mod Laws

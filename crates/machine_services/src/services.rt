@@ -1,0 +1,326 @@
+// The services by number.
+
+ghost use Rattle.std.specs.Prelude.{◌≡◌, ◌≤◌, ◌+◌, ◌*◌, length, Some, option_map, IfOk, OnErr};
+ghost use Rattle.region_memory.specs.declared.layout.TheConstants.{HEAP_LIMIT};
+ghost use Rattle.heap_terms.specs.Seen.{symbols_of};
+ghost use Rattle.heap_terms.specs.Shapes.{shape_at, from_outside};
+ghost use Rattle.heap_terms.specs.Terms.{term_at};
+ghost use Rattle.machine_services.specs.Comparing.{compared};
+ghost use Rattle.machine_services.specs.Lists.{spine_at};
+ghost use Rattle.machine_services.specs.Services.{service, returned, raised, class_of, displayed, equality, order_word, length_word, appended, copied, free_index};
+ghost use Rattle.machine_services.specs.declared.list.Spine.TheVariants.{Proper};
+ghost use Rattle.machine_services.specs.Ends.{spine_seen};
+ghost use Rattle.machine_services.specs.Served.{IsServed, class_seen};
+
+use crate::compare::compare;
+use crate::list::{
+    Room, Spine, copy_cells, elements, elements_at, follow, from_outside, link_at, put_cells,
+    put_tuple, room_at, stands_below,
+};
+use heap_terms::{Symbols, show_word, stands};
+use std::alloc::{AllocError, Global};
+use std::cmp::Ordering;
+
+/// The plain number -1 in a word.
+const MINUS_ONE: u64 = u64::MAX;
+
+/// The class of what is raised.
+#[derive(Clone, Copy, Debug, PartialEq, Eq)]
+pub enum Class {
+    Error,
+    Exit,
+    Throw,
+}
+
+/// A call of a service: what stands in the registers rax, rdi, rsi and r15.
+#[derive(Clone, Copy, Debug)]
+pub struct ServiceCall {
+    /// The number of the service, 0 to 9.
+    pub number: u64,
+    /// The word in rdi: the first argument.
+    pub first: u64,
+    /// The word in rsi: the second argument, or the number of the class of what is raised.
+    pub second: u64,
+    /// The address of the heap's free place.
+    pub free: u64,
+}
+
+/// What a service did.
+#[derive(Debug, Drop)]
+pub enum Served {
+    /// There is no next state.
+    NoNext,
+    /// The run returned the value in rdi.
+    Returned,
+    /// The run raised the reason in rdi.
+    Raised(Class),
+    /// The heap has no room for the words.
+    HeapFull,
+    /// The stack has no room.
+    StackFull,
+    /// It goes on with this word in rax.
+    Answered(u64),
+    /// It goes on with the word of `'true'` in rax, once this line is written: the text of a term and a newline.
+    Displayed(String),
+    /// It goes on with the result in rax; so many words were put into the heap from the free place on.
+    Built {
+        /// The word of what was built.
+        result: u64,
+        /// How many words were put into the heap.
+        words: usize,
+    },
+}
+
+/// Does the service over the heap. Its number is in rax, its arguments are in rdi and rsi, and the heap's free place is in r15.
+///
+/// | rax | what it does | rdi | rsi | what it answers |
+/// |---|---|---|---|---|
+/// | 0 | ends a run that returned | the value | | `Returned` |
+/// | 1 | ends a run that raised | the reason | the class: 1 error, 2 exit, 3 throw | `Raised` |
+/// | 2 | ends a run whose heap is full | | | `HeapFull` |
+/// | 3 | ends a run whose stack is full | | | `StackFull` |
+/// | 4 | displays a term | the term | | `Displayed` with the term's text and a newline |
+/// | 5 | tells whether two terms are equal | the one | the other | `Answered`: 1 where they are equal, else 0 |
+/// | 6 | compares two terms | the one | the other | `Answered`: -1, 0 or 1 where the one is less than, equal to or greater than the other |
+/// | 7 | counts the elements of a list | the list | | `Answered`: the length of a proper list, else -1 |
+/// | 8 | puts a list before a word | the list | the word | `Built` with its cells, or `Answered`: 0 where it is no proper list |
+/// | 9 | copies a tuple | the tuple | | `Built` with the copy |
+///
+/// What `Answered` gives is a plain number, -1 as 2^64 - 1. 0, 1 and 4 follow their term whole, 5 and 6 both from the left as far as
+/// the answer needs, 7 and 8 the cells of the list in rdi, and 9 the header of its tuple.
+///
+/// The answer is `NoNext` where a word that is followed stands for no term, or that of 9 for no tuple; at any other number or class;
+/// and where 8 or 9 would build and r15 isn't the address of a word of the heap or of its end. Where the words of 8 or 9 don't fit
+/// behind the free place, it is `HeapFull`. The heap changes where the answer is `Built`, from the free place on alone.
+///
+/// # Errors
+///
+/// `AllocError` where there is no memory for what is still to be followed, for a line, or for the elements of a list that stands
+/// at or above the free place where it is copied: the heap stays as it was.
+#[tactic(auto, unfolding(crate::specs::Services::service))]
+pub fn serve(
+    alloc: Global,
+    symbols: &Symbols,
+    heap: &mut [u64],
+    call: ServiceCall,
+) -> Result<Served, AllocError>
+    requires { length heap.old ≤ HEAP_LIMIT }
+    ensures served { IfOk result (λ s. IsServed (symbols_of symbols.now).definitions heap.old call.free
+        (service (symbols_of symbols.now) heap.old call.number call.first call.second call.free) s heap.new) }
+    ensures memory { OnErr result (heap.new ≡ heap.old) }
+{
+    match call.number {
+        0 => returned(alloc, symbols, heap, call),
+        1 => raised(alloc, symbols, heap, call),
+        2 => Ok(Served::HeapFull),
+        3 => Ok(Served::StackFull),
+        4 => displayed(alloc, symbols, heap, call),
+        5 => equality(alloc, symbols, heap, call),
+        6 => order_word(alloc, symbols, heap, call),
+        7 => Ok(length_word(symbols, heap, call)),
+        8 => appended(alloc, symbols, heap, call),
+        9 => Ok(copied(symbols, heap, call)),
+        _ => Ok(Served::NoNext),
+    }
+}
+
+// The end of a run that returned.
+fn returned(
+    alloc: Global,
+    symbols: &Symbols,
+    heap: &[u64],
+    call: ServiceCall,
+) -> Result<Served, AllocError>
+    requires { length heap.now ≤ HEAP_LIMIT }
+    ensures { IfOk result (λ s. IsServed (symbols_of symbols.now).definitions heap.now call.free
+        (returned (term_at (symbols_of symbols.now) heap.now call.first)) s heap.now) }
+{
+    if stands(alloc, symbols, heap, call.first)? {
+        Ok(Served::Returned)
+    } else {
+        Ok(Served::NoNext)
+    }
+}
+
+// The end of a run that raised.
+fn raised(
+    alloc: Global,
+    symbols: &Symbols,
+    heap: &[u64],
+    call: ServiceCall,
+) -> Result<Served, AllocError>
+    requires { length heap.now ≤ HEAP_LIMIT }
+    ensures { IfOk result (λ s. IsServed (symbols_of symbols.now).definitions heap.now call.free
+        (raised (class_of call.second) (term_at (symbols_of symbols.now) heap.now call.first)) s heap.now) }
+{
+    match class_of(call.second) {
+        None => Ok(Served::NoNext),
+        Some(class) => {
+            if stands(alloc, symbols, heap, call.first)? {
+                Ok(Served::Raised(class))
+            } else {
+                Ok(Served::NoNext)
+            }
+        }
+    }
+}
+
+// The class with this number.
+fn class_of(number: u64) -> Option<Class>
+    ensures { result ≡ option_map class_seen (class_of number) }
+{
+    match number {
+        1 => Some(Class::Error),
+        2 => Some(Class::Exit),
+        3 => Some(Class::Throw),
+        _ => None,
+    }
+}
+
+// The line of a term.
+fn displayed(
+    alloc: Global,
+    symbols: &Symbols,
+    heap: &[u64],
+    call: ServiceCall,
+) -> Result<Served, AllocError>
+    requires { length heap.now ≤ HEAP_LIMIT }
+    ensures { IfOk result (λ s. IsServed (symbols_of symbols.now).definitions heap.now call.free
+        (displayed (term_at (symbols_of symbols.now) heap.now call.first)) s heap.now) }
+{
+    let mut text = String::new(alloc);
+    if show_word(alloc, symbols, heap, call.first, &mut text)? {
+        text.push_str("\n")?;
+        Ok(Served::Displayed(text))
+    } else {
+        Ok(Served::NoNext)
+    }
+}
+
+// 1 where two words stand for equal terms, else 0.
+fn equality(
+    alloc: Global,
+    symbols: &Symbols,
+    heap: &[u64],
+    call: ServiceCall,
+) -> Result<Served, AllocError>
+    requires { length heap.now ≤ HEAP_LIMIT }
+    ensures { IfOk result (λ s. IsServed (symbols_of symbols.now).definitions heap.now call.free
+        (equality (compared (symbols_of symbols.now) heap.now call.first call.second)) s heap.now) }
+{
+    match compare(alloc, symbols, heap, call.first, call.second)? {
+        None => Ok(Served::NoNext),
+        Some(order) => match order {
+            Ordering::Equal => Ok(Served::Answered(1)),
+            Ordering::Less | Ordering::Greater => Ok(Served::Answered(0)),
+        },
+    }
+}
+
+// -1, 0 or 1 by the order of two words.
+fn order_word(
+    alloc: Global,
+    symbols: &Symbols,
+    heap: &[u64],
+    call: ServiceCall,
+) -> Result<Served, AllocError>
+    requires { length heap.now ≤ HEAP_LIMIT }
+    ensures { IfOk result (λ s. IsServed (symbols_of symbols.now).definitions heap.now call.free
+        (order_word (compared (symbols_of symbols.now) heap.now call.first call.second)) s heap.now) }
+{
+    match compare(alloc, symbols, heap, call.first, call.second)? {
+        None => Ok(Served::NoNext),
+        Some(order) => match order {
+            Ordering::Less => Ok(Served::Answered(MINUS_ONE)),
+            Ordering::Equal => Ok(Served::Answered(0)),
+            Ordering::Greater => Ok(Served::Answered(1)),
+        },
+    }
+}
+
+// The length of a proper list, else -1.
+fn length_word(symbols: &Symbols, heap: &[u64], call: ServiceCall) -> Served
+    requires { length heap.now ≤ HEAP_LIMIT }
+    ensures { IsServed (symbols_of symbols.now).definitions heap.now call.free
+        (length_word (spine_at (symbols_of symbols.now) heap.now call.first)) result heap.now }
+{
+    match follow(symbols, heap, call.first) {
+        Spine::NoTerm => Served::NoNext,
+        Spine::Improper => Served::Answered(MINUS_ONE),
+        Spine::Proper(n) => Served::Answered(n as u64),
+    }
+}
+
+// A list before another: 0 where it is no proper list.
+fn appended(
+    alloc: Global,
+    symbols: &Symbols,
+    heap: &mut [u64],
+    call: ServiceCall,
+) -> Result<Served, AllocError>
+    requires { length heap.old ≤ HEAP_LIMIT }
+    ensures served { IfOk result (λ s. IsServed (symbols_of symbols.now).definitions heap.old call.free
+        (appended heap.old call.free (spine_at (symbols_of symbols.now) heap.old call.first) call.second) s heap.new) }
+    ensures memory { OnErr result (heap.new ≡ heap.old) }
+{
+    match follow(symbols, heap, call.first) {
+        Spine::NoTerm => Ok(Served::NoNext),
+        Spine::Improper => Ok(Served::Answered(0)),
+        Spine::Proper(n) => match room_at(heap, call.free, 2 * n) {
+            Room::NoPlace => Ok(Served::NoNext),
+            Room::Full => Ok(Served::HeapFull),
+            Room::At(i) => built(alloc, symbols, heap, call, n, i),
+        },
+    }
+}
+
+// A list of so many elements before another, from the word with this number on.
+fn built(
+    alloc: Global,
+    symbols: &Symbols,
+    heap: &mut [u64],
+    call: ServiceCall,
+    count: usize,
+    at: usize,
+) -> Result<Served, AllocError>
+    requires limit { length heap.old ≤ HEAP_LIMIT }
+    requires list { spine_seen (spine_at (symbols_of symbols.now) heap.old call.first) ≡ Proper count }
+    requires place { free_index heap.old call.free ≡ Some at }
+    requires room { at + 2 * count ≤ length heap.old }
+    ensures served { IfOk result (λ s. IsServed (symbols_of symbols.now).definitions heap.old call.free
+        (appended heap.old call.free (spine_at (symbols_of symbols.now) heap.old call.first) call.second) s heap.new) }
+    ensures memory { OnErr result (heap.new ≡ heap.old) }
+{
+    let words = 2 * count;
+    let list = link_at(symbols, heap, from_outside(heap, call.first));
+    if stands_below(list, at) {
+        let result = copy_cells(symbols, heap, list, count, at, call.free, call.second);
+        return Ok(Served::Built { result, words });
+    }
+    // Words of the list stand where its copy goes, so they are taken first.
+    let found = elements(alloc, symbols, heap, call.first)?;
+    let result = put_cells(heap, at, call.free, found.as_slice(), call.second);
+    Ok(Served::Built { result, words })
+}
+
+// A copy of a tuple.
+fn copied(symbols: &Symbols, heap: &mut [u64], call: ServiceCall) -> Served
+    requires { length heap.old ≤ HEAP_LIMIT }
+    ensures { IsServed (symbols_of symbols.now).definitions heap.old call.free
+        (copied heap.old call.free (shape_at (symbols_of symbols.now) heap.old (from_outside heap.old call.first))) result heap.new }
+{
+    match elements_at(symbols, heap, call.first) {
+        None => Served::NoNext,
+        Some(elements) => match room_at(heap, call.free, 1 + elements.words) {
+            Room::NoPlace => Served::NoNext,
+            Room::Full => Served::HeapFull,
+            Room::At(i) => {
+                put_tuple(heap, i, elements);
+                Served::Built {
+                    result: call.free + 2,
+                    words: 1 + elements.words,
+                }
+            }
+        },
+    }
+}
