@@ -1,4 +1,5 @@
--- How the table of forms is read. The public contracts cite nothing of it.
+-- How the table of forms is read. The public contracts of this crate cite nothing of it. The machine fetches by it, and its
+-- `fetches_code` says by encodings alone what is fetched.
 use Rattle.std.specs.Prelude.{ℕ, ◌+◌, ◌*◌, ◌/◌, ◌%◌, ℤ, Bool, not, ◌==◌, ◌&&◌, ◌||◌, nat_lt, nat_le, if◌then◌else◌, List, [], ◌∷◌, length, take, drop, replicate, slice_index, Result, Ok, Err}
 use Rattle.std.specs.Int.{w32, w64, from_le_bytes, cast_signed}
 use Rattle.amd64_form.specs.declared.reg.Reg.{Reg}

@@ -1,7 +1,8 @@
 // A disassembler, with which the instructions and their bytes are tested.
 //
 // Each line of the input is some bytes in hexadecimal. It writes the bytes of the instruction at their front, as
-// `encode` gives them, and its text; or `short` or `unknown` where `decode` says so.
+// `encode` gives them, and its text, and the length that `decode` gives where that isn't the length of these bytes; or
+// `short` or `unknown` where `decode` says so.
 //
 // The lines of `stdin` and `stdout` are from GNU as 2.40, where displacements of 32 bits were asked for. Where it takes
 // a shorter form, as for constants that fit 8 bits and shifts by 1, they are the manual's, and objdump reads them so.
@@ -19,9 +20,14 @@ use std::alloc::Global;
 fn listed(alloc: Global, line: &str) -> anyhow::Result<String> {
     let bytes = hex::decode(alloc, line.as_bytes())?;
     match decode(&bytes) {
-        Ok((inst, _)) => {
-            let digits = hex::encode(alloc, encode(inst).as_slice())?;
-            Ok(format!(in alloc; "{digits} {inst}")?)
+        Ok((inst, length)) => {
+            let code = encode(inst);
+            let digits = hex::encode(alloc, code.as_slice())?;
+            if length == code.len() {
+                Ok(format!(in alloc; "{digits} {inst}")?)
+            } else {
+                Ok(format!(in alloc; "{digits} {inst}, of {length} bytes")?)
+            }
         }
         Err(DecodeFault::Short) => Ok(format!(in alloc; "short")?),
         Err(DecodeFault::Unknown) => Ok(format!(in alloc; "unknown")?),

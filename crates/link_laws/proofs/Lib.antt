@@ -1,0 +1,3 @@
+-- Lemmas on the definitions.
+pub mod Replacing
+pub mod Linking

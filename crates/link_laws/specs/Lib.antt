@@ -1,0 +1,2 @@
+-- What holds of linked code.
+pub mod Fields
