@@ -1,0 +1,2 @@
+-- What holds of a program in memory.
+pub mod Arguments
