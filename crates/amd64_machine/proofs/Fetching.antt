@@ -14,7 +14,7 @@ use Rattle.amd64_form.specs.Encoding.{encoding, BeginsWithInst, IsPartOfInst}
 use Rattle.amd64_form.specs.Form.{reading}
 use Rattle.amd64_form.proofs.Sizes.{some_bytes}
 use Rattle.amd64_form.proofs.Laws.{is_found, is_short, is_unknown, standing_is_read}
-use Rattle.amd64_machine.specs.declared.layout.TheConstants.{CODE_BEGIN}
+use Rattle.region_memory.specs.declared.layout.TheConstants.{CODE_BEGIN}
 use Rattle.amd64_machine.specs.Fetch.{Fetched, Nothing, Here, here, fetch, StandsAt, FetchesCode}
 
 -- what `decode` answers is what the table reads

@@ -6,7 +6,7 @@ use Rattle.amd64_form.specs.declared.decoding.DecodeFault.{DecodeFault}
 use Rattle.amd64_form.specs.Inst.{IsInst}
 use Rattle.amd64_form.specs.Encoding.{encoding}
 use Rattle.amd64_form.specs.Form.{reading}
-use Rattle.amd64_machine.specs.declared.layout.TheConstants.{CODE_BEGIN}
+use Rattle.region_memory.specs.declared.layout.TheConstants.{CODE_BEGIN}
 
 -- what stands at an address: no instruction, or one and the address of the next
 pub data Fetched : Type 0 where

@@ -1,18 +1,20 @@
 -- The machine, after the AMD64 Architecture Programmer's Manual, Volume 3: one instruction, and a run.
-use Rattle.std.specs.Prelude.{ℕ, zero, suc, ◌+◌, ◌*◌, ◌%◌, ℤ, List, Bool, true, false, Option, Some, None, replicate, nat_eq, if◌then◌else◌}
+use Rattle.std.specs.Prelude.{ℕ, zero, suc, ◌+◌, ◌*◌, ◌%◌, ℤ, List, [], ◌∷◌, ◌++◌, length, Bool, true, false, Option, Some, None, nat_eq, if◌then◌else◌}
+use Rattle.hipe_terms.specs.Terms.{Term}
 use Rattle.amd64_form.specs.declared.reg.Reg.{Reg}
-use Rattle.amd64_form.specs.declared.reg.Reg.TheVariants.{Rax, Rcx, Rdx, Rsp, Rdi, R15}
+use Rattle.amd64_form.specs.declared.reg.Reg.TheVariants.{Rax, Rcx, Rdx, Rsp, Rsi, Rdi, R11, R15}
 use Rattle.amd64_form.specs.declared.operation.UnaryOp.{UnaryOp}
 use Rattle.amd64_form.specs.declared.operation.UnaryOp.TheVariants.{Not, Neg, Idiv}
 use Rattle.amd64_form.specs.declared.inst.Inst.TheVariants.{Move, Load, Store, LoadConstant, Binary, BinaryConstant, Unary, Multiply, SignExtend, Shift, ShiftByCl, LoadAddress, Jump, Call, JumpIf, CallRegister, JumpRegister, Push, Pop, Return, Syscall}
 use Rattle.amd64_form.specs.Reg.{number}
 use Rattle.amd64_form.specs.Operation.{count_of}
-use Rattle.amd64_machine.specs.declared.layout.TheConstants.{CODE_BEGIN, STACK_BEGIN, STACK_WORDS, HEAP_END}
+use Rattle.region_memory.specs.Regions.{Regions, word_at, with_word}
+use Rattle.heap_terms.specs.Shapes.{Symbols}
+use Rattle.machine_services.specs.Services.{Service, NoNext, Ends, Answers, Displays, Builds, service, heap_with}
+use Rattle.machine_services.specs.Services.{Ending as ServiceEnding}
 use Rattle.amd64_machine.specs.declared.state.Flags.{Flags}
 use Rattle.amd64_machine.specs.Arithmetic.{wrap, difference, signed, unsigned, no_flags, flags_of_difference, flags_of_product, result_of, flags_of, turned, sign_word, double, divided, shifted, holds}
 use Rattle.amd64_machine.specs.Fetch.{Fetched, Nothing, Here, fetch}
-use Rattle.amd64_machine.specs.Regions.{word_at, stack_with}
-use Rattle.amd64_machine.specs.Integer.{integer_at}
 
 -- the word in each register, by the register's number
 abbrev pub Registers : Type 0
@@ -25,14 +27,21 @@ word_in registers r = registers (number r)
 abbrev pub put : Reg → ℕ → Registers → Registers
 put r word registers = λ q. if nat_eq q (number r) then word else registers q
 
--- how a run ends: with an integer, or at an address from which there is no next state
+-- how a run ends: by a service, or at an address from which there is no next state
 pub data Ending : Type 0 where
-  Returned : (value : ℤ) → Ending
+  ByService : (ending : ServiceEnding) → Ending
   MachineFault : (at : ℕ) → Ending
 
+-- the address of the next instruction, the registers, the flags, the memory, and the terms displayed so far
 pub data State : Type 0 where
-  On : (at : ℕ) (registers : Registers) (flags : Flags) (stack : List ℕ) → State
-  Over : (ending : Ending) → State
+  On : (at : ℕ) (registers : Registers) (flags : Flags) (regions : Regions) (displayed : List Term) → State
+  Over : (ending : Ending) (displayed : List Term) → State
+
+-- what an instruction comes to: it goes on, there is no next state, or it calls a service and the next instruction is at an address
+pub data Step : Type 0 where
+  Goes : (at : ℕ) (registers : Registers) (flags : Flags) (regions : Regions) → Step
+  Stops : Step
+  Calls : (next : ℕ) → Step
 
 -- eight bytes below an address
 abbrev pub below : ℕ → ℕ
@@ -48,125 +57,149 @@ put_result to None registers = registers
 put_result to (Some word) registers = put to word registers
 
 -- a word was read into a register, or couldn't be
-abbrev pub loaded : ℕ → ℕ → Reg → Registers → Flags → List ℕ → Option ℕ → State
-loaded at next to registers flags stack None = Over (MachineFault at)
-loaded at next to registers flags stack (Some word) = On next (put to word registers) flags stack
+abbrev pub loaded : ℕ → Reg → Registers → Flags → Regions → Option ℕ → Step
+loaded next to registers flags regions None = Stops
+loaded next to registers flags regions (Some word) = Goes next (put to word registers) flags regions
 
 -- a word was written, or couldn't be
-abbrev pub stored : ℕ → ℕ → Registers → Flags → Option (List ℕ) → State
-stored at next registers flags None = Over (MachineFault at)
-stored at next registers flags (Some stack) = On next registers flags stack
+abbrev pub stored : ℕ → Registers → Flags → Option Regions → Step
+stored next registers flags None = Stops
+stored next registers flags (Some regions) = Goes next registers flags regions
 
 -- a word was written below rsp, or couldn't be, and it goes on at an address
-abbrev pub pushed : ℕ → ℕ → Registers → Flags → Option (List ℕ) → State
-pushed at next registers flags None = Over (MachineFault at)
-pushed at next registers flags (Some stack) = On next (put Rsp (below (word_in registers Rsp)) registers) flags stack
+abbrev pub pushed : ℕ → Registers → Flags → Option Regions → Step
+pushed next registers flags None = Stops
+pushed next registers flags (Some regions) = Goes next (put Rsp (below (word_in registers Rsp)) registers) flags regions
 
 -- a word was read at rsp into a register, or couldn't be
-abbrev pub popped : ℕ → ℕ → Reg → Registers → Flags → List ℕ → Option ℕ → State
-popped at next r registers flags stack None = Over (MachineFault at)
-popped at next r registers flags stack (Some word) =
-    On next (put r word (put Rsp (wrap (word_in registers Rsp + 8)) registers)) flags stack
+abbrev pub popped : ℕ → Reg → Registers → Flags → Regions → Option ℕ → Step
+popped next r registers flags regions None = Stops
+popped next r registers flags regions (Some word) =
+    Goes next (put r word (put Rsp (wrap (word_in registers Rsp + 8)) registers)) flags regions
 
 -- an address was read at rsp, or couldn't be, and it goes on there
-abbrev pub gone_back : ℕ → Registers → Flags → List ℕ → Option ℕ → State
-gone_back at registers flags stack None = Over (MachineFault at)
-gone_back at registers flags stack (Some target) =
-    On target (put Rsp (wrap (word_in registers Rsp + 8)) registers) flags stack
+abbrev pub gone_back : Registers → Flags → Regions → Option ℕ → Step
+gone_back registers flags regions None = Stops
+gone_back registers flags regions (Some target) =
+    Goes target (put Rsp (wrap (word_in registers Rsp + 8)) registers) flags regions
 
 -- a condition holds, or doesn't, or isn't known
-abbrev pub branched : ℕ → ℕ → ℕ → Registers → Flags → List ℕ → Option Bool → State
-branched at target next registers flags stack None = Over (MachineFault at)
-branched at target next registers flags stack (Some true) = On target registers flags stack
-branched at target next registers flags stack (Some false) = On next registers flags stack
+abbrev pub branched : ℕ → ℕ → Registers → Flags → Regions → Option Bool → Step
+branched target next registers flags regions None = Stops
+branched target next registers flags regions (Some true) = Goes target registers flags regions
+branched target next registers flags regions (Some false) = Goes next registers flags regions
 
 -- a quotient and a remainder, if there are such
-abbrev pub quotient_put : ℕ → ℕ → Registers → List ℕ → Option (ℕ × ℕ) → State
-quotient_put at next registers stack None = Over (MachineFault at)
-quotient_put at next registers stack (Some parts) =
-    On next (put Rdx parts.1 (put Rax parts.0 registers)) no_flags stack
+abbrev pub quotient_put : ℕ → Registers → Regions → Option (ℕ × ℕ) → Step
+quotient_put next registers regions None = Stops
+quotient_put next registers regions (Some parts) =
+    Goes next (put Rdx parts.1 (put Rax parts.0 registers)) no_flags regions
 
 -- an operation of one register
-abbrev pub unary : ℕ → ℕ → UnaryOp → Reg → Registers → Flags → List ℕ → State
-unary at next Not of registers flags stack = On next (put of (turned (word_in registers of)) registers) flags stack
-unary at next Neg of registers flags stack =
-    On next (put of (difference 0 (word_in registers of)) registers) (flags_of_difference 0 (word_in registers of)) stack
-unary at next Idiv of registers flags stack =
-    quotient_put at next registers stack (divided (double (word_in registers Rdx) (word_in registers Rax)) (signed (word_in registers of)))
-
--- a service ended the run with an integer, or its word is none
-abbrev pub returned : ℕ → Option ℤ → State
-returned at None = Over (MachineFault at)
-returned at (Some value) = Over (Returned value)
-
--- service 0 ends the run with the integer in rdi; there is no other
-abbrev pub served : ℕ → Registers → State
-served at registers =
-    if nat_eq (word_in registers Rax) 0 then returned at (integer_at (word_in registers Rdi)) else Over (MachineFault at)
+abbrev pub unary : ℕ → UnaryOp → Reg → Registers → Flags → Regions → Step
+unary next Not of registers flags regions = Goes next (put of (turned (word_in registers of)) registers) flags regions
+unary next Neg of registers flags regions =
+    Goes next (put of (difference 0 (word_in registers of)) registers) (flags_of_difference 0 (word_in registers of)) regions
+unary next Idiv of registers flags regions =
+    quotient_put next registers regions (divided (double (word_in registers Rdx) (word_in registers Rax)) (signed (word_in registers of)))
 
 -- what was fetched at the address is done
-abbrev pub act : List ℕ → ℕ → Fetched → Registers → Flags → List ℕ → State
-act code at Nothing registers flags stack = Over (MachineFault at)
-act code at (Here (Move to from) next) registers flags stack = On next (put to (word_in registers from) registers) flags stack
-act code at (Here (Load to base offset) next) registers flags stack =
-    loaded at next to registers flags stack (word_at code stack (displaced (word_in registers base) offset))
-act code at (Here (Store base offset from) next) registers flags stack =
-    stored at next registers flags (stack_with code stack (displaced (word_in registers base) offset) (word_in registers from))
-act code at (Here (LoadConstant to value) next) registers flags stack = On next (put to value registers) flags stack
-act code at (Here (Binary op to from) next) registers flags stack =
+abbrev pub act : Fetched → Registers → Flags → Regions → Step
+act Nothing registers flags regions = Stops
+act (Here (Move to from) next) registers flags regions = Goes next (put to (word_in registers from) registers) flags regions
+act (Here (Load to base offset) next) registers flags regions =
+    loaded next to registers flags regions (word_at regions (displaced (word_in registers base) offset))
+act (Here (Store base offset from) next) registers flags regions =
+    stored next registers flags (with_word regions (displaced (word_in registers base) offset) (word_in registers from))
+act (Here (LoadConstant to value) next) registers flags regions = Goes next (put to value registers) flags regions
+act (Here (Binary op to from) next) registers flags regions =
     let a = word_in registers to in
     let b = word_in registers from in
-    On next (put_result to (result_of op a b) registers) (flags_of op a b) stack
-act code at (Here (BinaryConstant op to value) next) registers flags stack =
+    Goes next (put_result to (result_of op a b) registers) (flags_of op a b) regions
+act (Here (BinaryConstant op to value) next) registers flags regions =
     let a = word_in registers to in
     let b = unsigned value in
-    On next (put_result to (result_of op a b) registers) (flags_of op a b) stack
-act code at (Here (Unary op of) next) registers flags stack = unary at next op of registers flags stack
-act code at (Here (Multiply to by) next) registers flags stack =
+    Goes next (put_result to (result_of op a b) registers) (flags_of op a b) regions
+act (Here (Unary op of) next) registers flags regions = unary next op of registers flags regions
+act (Here (Multiply to by) next) registers flags regions =
     let a = word_in registers to in
     let b = word_in registers by in
-    On next (put to (wrap (a * b)) registers) (flags_of_product a b) stack
-act code at (Here SignExtend next) registers flags stack =
-    On next (put Rdx (sign_word (word_in registers Rax)) registers) flags stack
-act code at (Here (Shift op to count) next) registers flags stack =
-    On next (put to (shifted op (word_in registers to) (count_of count % 64)) registers) no_flags stack
-act code at (Here (ShiftByCl op to) next) registers flags stack =
-    On next (put to (shifted op (word_in registers to) (word_in registers Rcx % 64)) registers) no_flags stack
-act code at (Here (LoadAddress to base offset) next) registers flags stack =
-    On next (put to (displaced (word_in registers base) offset) registers) flags stack
-act code at (Here (Jump offset) next) registers flags stack = On (displaced next offset) registers flags stack
-act code at (Here (Call offset) next) registers flags stack =
-    pushed at (displaced next offset) registers flags (stack_with code stack (below (word_in registers Rsp)) next)
-act code at (Here (JumpIf condition offset) next) registers flags stack =
-    branched at (displaced next offset) next registers flags stack (holds condition flags)
-act code at (Here (CallRegister r) next) registers flags stack =
-    pushed at (word_in registers r) registers flags (stack_with code stack (below (word_in registers Rsp)) next)
-act code at (Here (JumpRegister r) next) registers flags stack = On (word_in registers r) registers flags stack
-act code at (Here (Push r) next) registers flags stack =
-    pushed at next registers flags (stack_with code stack (below (word_in registers Rsp)) (word_in registers r))
-act code at (Here (Pop r) next) registers flags stack =
-    popped at next r registers flags stack (word_at code stack (word_in registers Rsp))
-act code at (Here Return next) registers flags stack =
-    gone_back at registers flags stack (word_at code stack (word_in registers Rsp))
-act code at (Here Syscall next) registers flags stack = served at registers
+    Goes next (put to (wrap (a * b)) registers) (flags_of_product a b) regions
+act (Here SignExtend next) registers flags regions =
+    Goes next (put Rdx (sign_word (word_in registers Rax)) registers) flags regions
+act (Here (Shift op to count) next) registers flags regions =
+    Goes next (put to (shifted op (word_in registers to) (count_of count % 64)) registers) no_flags regions
+act (Here (ShiftByCl op to) next) registers flags regions =
+    Goes next (put to (shifted op (word_in registers to) (word_in registers Rcx % 64)) registers) no_flags regions
+act (Here (LoadAddress to base offset) next) registers flags regions =
+    Goes next (put to (displaced (word_in registers base) offset) registers) flags regions
+act (Here (Jump offset) next) registers flags regions = Goes (displaced next offset) registers flags regions
+act (Here (Call offset) next) registers flags regions =
+    pushed (displaced next offset) registers flags (with_word regions (below (word_in registers Rsp)) next)
+act (Here (JumpIf condition offset) next) registers flags regions =
+    branched (displaced next offset) next registers flags regions (holds condition flags)
+act (Here (CallRegister r) next) registers flags regions =
+    pushed (word_in registers r) registers flags (with_word regions (below (word_in registers Rsp)) next)
+act (Here (JumpRegister r) next) registers flags regions = Goes (word_in registers r) registers flags regions
+act (Here (Push r) next) registers flags regions =
+    pushed next registers flags (with_word regions (below (word_in registers Rsp)) (word_in registers r))
+act (Here (Pop r) next) registers flags regions =
+    popped next r registers flags regions (word_at regions (word_in registers Rsp))
+act (Here Return next) registers flags regions =
+    gone_back registers flags regions (word_at regions (word_in registers Rsp))
+act (Here Syscall next) registers flags regions = Calls next
 
--- one step; a run that is over stays so
-abbrev pub machine_step : List ℕ → State → State
-machine_step code (On at registers flags stack) = act code at (fetch code at) registers flags stack
-machine_step code (Over ending) = Over ending
+-- the registers when a service goes on: its result in rax, and rcx and r11, in which a processor leaves what it comes from, are 0
+abbrev pub answered : ℕ → Registers → Registers
+answered word registers = put Rax word (put Rcx 0 (put R11 0 registers))
 
--- at most n steps
-abbrev pub machine_run : List ℕ → ℕ → State → State
-machine_run code zero state = state
-machine_run code (suc n) state = machine_run code n (machine_step code state)
+-- the word of the atom 'true', which is the first atom of every program
+abbrev pub true_word : ℕ
+true_word = 11
 
--- so many words that are 0
-unfoldable pub zeros : ℕ → List ℕ
-zeros n = replicate n 0
+-- the registers when a service has built so many words
+abbrev pub grown : ℕ → Registers → Registers
+grown words registers = put R15 (wrap (word_in registers R15 + 8 * words)) registers
 
--- at the code's first byte, with an empty stack of this many words: all other registers and words are 0
-abbrev pub start_with : ℕ → State
-start_with words = On CODE_BEGIN (put Rsp (STACK_BEGIN + 8 * words) (put R15 HEAP_END (λ q. 0))) no_flags (zeros words)
+-- what a service comes to that was called at an address; no flag is known after it
+abbrev pub served : ℕ → ℕ → Registers → Regions → List Term → Service → State
+served at next registers regions displayed NoNext = Over (MachineFault at) displayed
+served at next registers regions displayed (Ends ending) = Over (ByService ending) displayed
+served at next registers regions displayed (Answers word) = On next (answered word registers) no_flags regions displayed
+served at next registers regions displayed (Displays t) = On next (answered true_word registers) no_flags regions (displayed ++ t ∷ [])
+served at next registers regions displayed (Builds word words) =
+    On next (answered word (grown (length words) registers)) no_flags
+    (record regions { heap = heap_with regions.heap (word_in registers R15) words }) displayed
 
-abbrev pub start : State
-start = start_with STACK_WORDS
+-- the service that the registers call
+abbrev pub called : Symbols → Registers → Regions → Service
+called symbols registers regions =
+    service symbols regions.heap (word_in registers Rax) (word_in registers Rdi) (word_in registers Rsi) (word_in registers R15)
+
+abbrev pub stepped : Symbols → ℕ → Registers → Regions → List Term → Step → State
+stepped symbols at registers regions displayed (Goes next others flags after) = On next others flags after displayed
+stepped symbols at registers regions displayed Stops = Over (MachineFault at) displayed
+stepped symbols at registers regions displayed (Calls next) = served at next registers regions displayed (called symbols registers regions)
+
+-- one step, where this is what is fetched at each address; a run that is over stays so
+abbrev pub machine_step_with : (Regions → ℕ → Fetched) → Symbols → State → State
+machine_step_with fetch_at symbols (On at registers flags regions displayed) =
+    stepped symbols at registers regions displayed (act (fetch_at regions at) registers flags regions)
+machine_step_with fetch_at symbols (Over ending displayed) = Over ending displayed
+
+-- at most n such steps
+abbrev pub machine_run_with : (Regions → ℕ → Fetched) → Symbols → ℕ → State → State
+machine_run_with fetch_at symbols zero state = state
+machine_run_with fetch_at symbols (suc n) state = machine_run_with fetch_at symbols n (machine_step_with fetch_at symbols state)
+
+-- the instruction whose encoding stands in the code at the address
+abbrev pub fetch_code : Regions → ℕ → Fetched
+fetch_code regions at = fetch regions.code at
+
+-- one step of the code
+abbrev pub machine_step : Symbols → State → State
+machine_step = machine_step_with fetch_code
+
+-- at most n steps of the code
+abbrev pub machine_run : Symbols → ℕ → State → State
+machine_run = machine_run_with fetch_code

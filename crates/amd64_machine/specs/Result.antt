@@ -1,29 +1,53 @@
--- What a run answers, and the line of its result.
-use Rattle.std.specs.Prelude.{◌≡◌, ℕ, ℤ, List, [], ◌∷◌, ◌++◌, Option, Some, None, unwrap_or, codes}
-use Rattle.std.specs.Fmt.{signed_decimal}
+-- What a run answers, the lines of what was displayed, and the line of its result.
+use Rattle.std.specs.Prelude.{ℕ, List, [], ◌++◌, flat_map, Option, Some, None, unwrap_or, codes}
+use Rattle.hipe_terms.specs.Terms.{Term}
+use Rattle.hipe_terms.specs.Shown.{Names}
+use Rattle.hipe_terms.specs.Outcome.{Class, error, exit, throw}
+use Rattle.machine_services.specs.Services.{Returned, Raised, HeapFull, StackFull}
+use Rattle.machine_services.specs.Served.{class_seen, line_of}
 use Rattle.amd64_machine.specs.declared.machine.End.{End}
 use Rattle.amd64_machine.specs.declared.machine.End.TheVariants as ends
-use Rattle.amd64_machine.specs.Machine.{State, On, Over, Returned, MachineFault}
+use Rattle.amd64_machine.specs.Machine.{State, On, Over, Ending, ByService, MachineFault}
+
+abbrev pub ending_answer : Ending → End
+ending_answer (ByService (Returned value)) = ends.Returned
+ending_answer (ByService (Raised class reason)) = ends.Raised (class_seen class)
+ending_answer (ByService HeapFull) = ends.HeapFull
+ending_answer (ByService StackFull) = ends.StackFull
+ending_answer (MachineFault at) = ends.MachineFault at
 
 -- the end of a run that is over
 abbrev pub end_of : State → Option End
-end_of (On at registers flags stack) = None
-end_of (Over (Returned value)) = Some ends.Returned
-end_of (Over (MachineFault at)) = Some (ends.MachineFault at)
+end_of (On at registers flags regions displayed) = None
+end_of (Over ending displayed) = Some (ending_answer ending)
 
 -- what a run answers
 abbrev pub answer_of : State → End
 answer_of state = unwrap_or (end_of state) ends.StepsSpent
 
--- the line of a value
-abbrev pub value_line : ℤ → List ℕ
-value_line value = codes "value " ++ signed_decimal value ++ 10 ∷ []
+-- the terms displayed so far
+abbrev pub displayed_by : State → List Term
+displayed_by (On at registers flags regions displayed) = displayed
+displayed_by (Over ending displayed) = displayed
 
--- the run ended with a value
-abbrev pub HasReturned : State → Type 0
-HasReturned state = (value : ℤ) × (state ≡ Over (Returned value))
+-- each term in a line of its own
+abbrev pub lines : Names → List Term → List ℕ
+lines names terms = flat_map (line_of names) terms
 
--- the line of the value that a run ended with, where it did
-abbrev pub result_line : State → List ℕ
-result_line (Over (Returned value)) = value_line value
-result_line _ = []
+-- the word before a result
+abbrev pub class_word : Class → List ℕ
+class_word error = codes "error "
+class_word exit = codes "exit "
+class_word throw = codes "throw "
+
+-- the run ended with a value or a raise
+abbrev pub HasResult : State → Type 0
+HasResult (Over (ByService (Returned value)) displayed) = Unit {0}
+HasResult (Over (ByService (Raised class reason)) displayed) = Unit {0}
+HasResult _ = ⊥
+
+-- the line of the result that a run ended with, where it did
+abbrev pub result_line : Names → State → List ℕ
+result_line names (Over (ByService (Returned value)) displayed) = codes "value " ++ line_of names value
+result_line names (Over (ByService (Raised class reason)) displayed) = class_word class ++ line_of names reason
+result_line names _ = []

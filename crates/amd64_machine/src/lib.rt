@@ -1,35 +1,34 @@
-// The machine that runs the code: registers, flags, a stack and one service, after the AMD64 Architecture
-// Programmer's Manual, Volume 3.
+// The machine that runs a program: registers, flags, memory and services, after the AMD64 Architecture Programmer's Manual, Volume 3.
 //
-// The definition stands in specs/: `fetch` says which instruction stands at an address of the code, `machine_step`
-// what it does, and `machine_run` where at most n steps lead. It speaks of lists and numbers, and shares with the
-// code only the constants of `layout.rt` and the table of forms: `fetches_code` says what is fetched by the
-// encodings alone, and `integers_in_words` which word stands for an integer.
+// The definition stands in specs/: `fetch` says which instruction stands at an address of the code, `act` what an instruction comes
+// to, `machine_step` what a step does, and `machine_run` where at most n steps lead. It speaks of lists and numbers, and shares with
+// the code only constants and the table of forms: `fetches_code` says what is fetched by the encodings alone.
 //
-// Promised here: `start` makes the state `start`, `step` and `run` go exactly where `machine_step` and
-// `machine_run` go and answer how the run ended, and `write_result` writes the line of the value that it ended with.
+// Promised here: `load` makes the state `start`, `step` and `run` go exactly where `machine_step` and `machine_run` go, write the
+// lines of what is displayed and answer how the run ended, and `write_result` writes the line of the result that it ended with.
 //
 // Files:
-//   layout.rt     where the regions begin and how large they are
-//   regions.rt    words at addresses
-//   integer.rt    integers in words
 //   arithmetic.rt results of operations, their flags, and conditions
-//   state.rt      the flags, and the state between two instructions
+//   state.rt      the flags, the state between two instructions, and how a run begins and ends
+//   cache.rt      instructions that were decoded, by their addresses
 //   perform.rt    what each instruction does
-//   machine.rt    `Machine`: start, step, run
+//   serving.rt    what a call of a service does
+//   running.rt    steps of a run that goes on
+//   machine.rt    `Machine`: load, step, run
 //   result.rt     the line of a result
 #![tactic(auto)]
 
 mod arithmetic;
-mod integer;
-pub mod layout;
+mod cache;
 pub mod machine;
 mod perform;
-mod regions;
 pub mod result;
+mod running;
+mod serving;
 pub mod state;
 
 pub use arithmetic::conditions_compare;
-pub use integer::integers_in_words;
-pub use machine::{End, Machine, fetches_code};
+pub use cache::fetches_code;
+pub use machine::{End, Machine, runs_go_on};
+pub use machine_services::Class;
 pub use result::ResultFault;

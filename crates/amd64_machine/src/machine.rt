@@ -1,174 +1,180 @@
-// The machine: start, step, run.
-ghost use Rattle.std.specs.Prelude.{◌≡◌, ℕ, ◌*◌, ◌<◌, ◌≤◌, ◌^◌, List, IfOk, OnOk, OnErr, IsErrOf};
+// The machine: load, step, run.
+ghost use Rattle.std.specs.Prelude.{◌≡◌, ◌≤◌, [], All, IfOk, OnOk, OnErr, IsErrOf, None, length};
 ghost use Rattle.std.specs.Io.KnownBytes.{Appends};
+ghost use Rattle.region_memory.specs.declared.layout.TheConstants.{FUNCTION_LIMIT};
+ghost use Rattle.hipe_terms.specs.Constants.{IsConstant};
 ghost use Rattle.hipe_edge.specs.Bytes.{AppendsPrefix};
 ghost use Rattle.hipe_edge.specs.Counts.{Rises};
-ghost use Rattle.amd64_machine.specs.Fetch.{fetch, FetchesCode};
-ghost use Rattle.amd64_machine.specs.Machine.{act, machine_step, machine_run, start_with, start};
-ghost use Rattle.amd64_machine.specs.Result.{end_of, answer_of, HasReturned, result_line};
-ghost use Rattle.amd64_machine.specs.Seen.{fetched_seen, seen, registers_seen, code_of, state_of};
+ghost use Rattle.image_load.specs.Loading.{loaded};
+ghost use Rattle.heap_terms.specs.Shapes.{Symbols as SymbolsSeen};
+ghost use Rattle.amd64_machine.specs.Laws.{RunsGoOn};
+ghost use Rattle.amd64_machine.specs.Loading.{start};
+ghost use Rattle.amd64_machine.specs.Result.{HasResult, result_line};
 
-use super::layout::{CODE_BEGIN, HEAP_END, STACK_BEGIN, STACK_WORDS};
-use super::perform::perform;
-use super::result::{ResultFault, write_value};
-use super::state::{Core, Ended, Flags, put};
-use amd64_form::{Inst, Reg, decode};
+use super::cache::{Cached, new_cache};
+use super::result::{ResultFault, write_ended};
+use super::running::{advance, run_on};
+use super::state::{Core, Ended, begun, end_of};
+use heap_terms::Symbols;
 use hipe_edge::{Memory, Sink};
+use hipe_terms::Call;
+use image_link::Image;
+use image_load::{Loaded, load_program};
+use machine_services::Class;
+use region_memory::Region;
 use std::alloc::Global;
+use std::marker::Model;
 
 /// How a run ended.
 #[derive(Clone, Copy, Debug, PartialEq, Eq)]
 pub enum End {
-    /// The code returned a value.
+    /// The program returned a value.
     Returned,
+    /// The program raised a reason of this class.
+    Raised { class: Class },
+    /// The heap had no room for what the program or the call builds.
+    HeapFull,
+    /// The stack had no room for an activation.
+    StackFull,
     /// All instructions that were allowed ran, and the run isn't over: it can go on.
     StepsSpent,
-    /// There is no next state at the address `at`: no instruction stands there, or what it does isn't allowed: an
-    /// access outside the regions or at no multiple of 8, a write to the code, a division by 0 or whose quotient
-    /// doesn't fit, a jump on a flag that isn't known, a service with another number than 0 or with a word that is no
-    /// integer.
+    /// There is no next state at the address `at`: no instruction stands there, or what it does isn't allowed: an access
+    /// outside the regions or at no multiple of 8, a write to a region that is only read, a division by 0 or whose quotient
+    /// doesn't fit, a jump on a flag that isn't known, a service with another number than 0 to 9 or with words that are none of
+    /// its terms.
     MachineFault { at: u64 },
+    /// A line that the program displayed couldn't be written.
+    WriteFault,
+    /// There was no memory for a service.
+    Memory,
 }
 
-/// The machine, with its code. Contracts see the code's bytes by `code_of` and the state by `state_of`.
+/// The machine with its program. Contracts see it by `machine_of` as a `Seen`: its symbols, its state for what was displayed before, and
+/// how it was stopped, if it was.
 #[derive(Drop)]
 pub struct Machine {
-    code: Vec<u8>,
     core: Core,
+    cache: Vec<Option<Cached>>,
+    symbols: Symbols,
     ended: Option<Ended>,
 }
 
-/// An instruction is fetched exactly where its encoding stands in the code, and the next begins behind it.
-pub fn fetches_code()
-    ensures { (code : List ℕ) → FetchesCode code }
+impl Model for Machine {
+    ghost use Rattle.heap_terms.specs.Seen.{symbols_of};
+    ghost use Rattle.amd64_machine.specs.Seen.{Held, IsCache, HasTerm};
+
+    ghost Value = { Held };
+
+    ghost view = { λ m. record { core = m.core; symbols = m.symbols; ended = m.ended } };
+
+    ghost invariant = { λ m. IsCache m.core.region.code m.cache.items × HasTerm (symbols_of m.symbols) m.core.region.heap m.ended };
+}
+
+/// A run that is over stays over; the steps of a run are those of a first part and then those of the rest; and what is displayed goes
+/// behind what was displayed before.
+pub fn runs_go_on()
+    ensures { (symbols : SymbolsSeen) → RunsGoOn symbols }
 {}
 
-// The instruction at the address and the address of the next, if one stands there.
-fn fetched(code: &[u8], at: u64) -> Option<(Inst, u64)>
-    ensures { fetched_seen result ≡ fetch code.now at }
-{
-    if at < CODE_BEGIN {
-        return None;
-    }
-    let offset = (at - CODE_BEGIN) as usize;
-    if offset >= code.len() {
-        return None;
-    }
-    match decode(&code[offset..]) {
-        Ok((inst, length)) => Some((inst, at + length as u64)),
-        Err(_) => None,
-    }
-}
-
-// Does the instruction at the address where the state is, and answers how the run ended by it.
-fn advance(core: &mut Core, code: &[u8]) -> Option<Ended>
-    ensures { seen core.new result ≡ act code.now core.old.at (fetch code.now core.old.at)
-        (registers_seen core.old.registers) core.old.flags core.old.stack.items }
-{
-    match fetched(code, core.at) {
-        Some((inst, next)) => perform(core, code, inst, next),
-        None => Some(Ended::MachineFault(core.at)),
-    }
-}
-
-// A machine at the first byte of the code, with a stack of this many words.
-#[tactic(auto, unfolding(crate::specs::Machine::zeros))]
-fn with_stack(alloc: Global, code: Vec<u8>, words: usize) -> Result<Machine, Memory>
-    requires { 8 * words < 2 ^ 32 }
-    ensures code { IfOk result (λ m. code_of m ≡ code.items) }
-    ensures state { IfOk result (λ m. state_of m ≡ start_with words) }
-{
-    let stack = vec![in alloc; 0u64; words]?;
-    let mut registers = [0u64; 16];
-    put(&mut registers, Reg::R15, HEAP_END);
-    put(&mut registers, Reg::Rsp, STACK_BEGIN + 8 * words as u64);
-    let core = Core {
-        at: CODE_BEGIN,
-        registers,
-        flags: Flags::UNKNOWN,
-        stack,
-    };
-    Ok(Machine {
-        code,
-        core,
-        ended: None,
-    })
-}
-
 impl Machine {
-    /// A machine at the first byte of the code. The stack is empty: rsp is its end. r15 is the end of the heap,
-    /// which has no words. All other registers and words are 0, and the flags unknown.
+    ghost use Rattle.hipe_edge.specs.Streams.{stream};
+    ghost use Rattle.amd64_machine.specs.Outcome.{HasEnded, Stepped, Ran};
+    ghost use Rattle.amd64_machine.specs.Seen.{machine_of};
+
+    /// Puts an image and the constants of a call into memory, before the first instruction. Where the image exports no function of the
+    /// call's name and number of arguments, the run is over with the reason `'undef'` of the class `error`; where the constants don't
+    /// fit the heap, it is over with `HeapFull`.
     ///
     /// # Errors
     ///
-    /// `Memory` where there was none for the stack of 8 MiB.
-    pub fn start(alloc: Global, code: Vec<u8>) -> Result<Machine, Memory>
-        ensures code { IfOk result (λ m. code_of m ≡ code.items) }
-        ensures state { IfOk result (λ m. state_of m ≡ start) }
+    /// `Memory` where there was none for the program.
+    pub fn load(alloc: Global, image: Image, call: &Call, region: Region) -> Result<Machine, Memory>
+        requires constants { All IsConstant call.now.args }
+        requires functions { length image.functions ≤ FUNCTION_LIMIT }
+        ensures { IfOk result (λ m. ((machine_of m).symbols ≡ (loaded image call.now region).symbols)
+            × ((machine_of m).state [] ≡ start image call.now region) × ((machine_of m).stopped ≡ None)) }
     {
-        with_stack(alloc, code, STACK_WORDS)
+        let Loaded {
+            region,
+            symbols,
+            start,
+        } = load_program(alloc, image, call, region)?;
+        let cache = new_cache(alloc, region.code())?;
+        let (core, ended) = begun(region, start);
+        Ok(Machine {
+            core,
+            cache,
+            symbols,
+            ended,
+        })
     }
 
-    /// Does one instruction. `None` where the run goes on; the end where this step ended it, or it had ended before,
-    /// and then nothing changes. `StepsSpent` never comes. It takes no memory, and no instruction writes to `out` yet.
-    pub fn step<K: Sink>(&mut self, out: &mut K) -> Option<End>
-        ensures code { code_of self.new ≡ code_of self.old }
-        ensures state { state_of self.new ≡ machine_step (code_of self.old) (state_of self.old) }
-        ensures end { result ≡ end_of (state_of self.new) }
-        ensures out { out.new ≡ out.old }
+    /// Does one instruction. `None` where the run goes on; the end where this step ended it, or it had ended before: then nothing
+    /// changes, and nothing is written. `StepsSpent` never comes. A term that the instruction displays is written to `out` in a line of
+    /// its own. It takes no memory, but where the instruction calls a service.
+    ///
+    /// A write that fails and want of memory stop the machine in the state before the instruction: every later call answers the same.
+    pub fn step<K: Sink>(&mut self, alloc: Global, out: &mut K) -> Option<End>
+        ensures step { Stepped (machine_of self.old) (machine_of self.new)
+            (stream (K.written out.old) (K.written out.new) (K.faults out.old) (K.faults out.new)) result }
+        ensures over { HasEnded (machine_of self.old) → (self.new ≡ self.old) × (out.new ≡ out.old) }
+        ensures symbols { (machine_of self.new).symbols ≡ (machine_of self.old).symbols }
+        ensures faults_never_fall { K.faults out.old ≤ K.faults out.new }
     {
-        if self.ended.is_none() {
-            self.ended = advance(&mut self.core, &self.code);
-        }
-        self.end()
-    }
-
-    /// Does at most `n` instructions, and answers how the run ended: `StepsSpent` exactly where it isn't over after
-    /// `n`, and then a further `run` goes on. Any other end is answered again by every later call, and nothing
-    /// changes. No instruction writes to `out` yet.
-    pub fn run<K: Sink>(&mut self, n: u64, out: &mut K) -> End
-        ensures code { code_of self.new ≡ code_of self.old }
-        ensures state { state_of self.new ≡ machine_run (code_of self.old) n (state_of self.old) }
-        ensures end { result ≡ answer_of (state_of self.new) }
-        ensures out { out.new ≡ out.old }
-    {
-        for _ in 0..n {
-            if let Some(end) = self.step(out) {
-                return end;
+        match self.ended {
+            Some(ended) => Some(ended.end()),
+            None => {
+                self.ended = advance(&mut self.core, &mut self.cache, &self.symbols, alloc, out);
+                end_of(self.ended)
             }
         }
-        self.end().unwrap_or(End::StepsSpent)
     }
 
-    /// Writes the line of the value that the run returned, which it must have: `value`, a space, the integer in
-    /// decimal and a newline.
+    /// Does at most `n` instructions, and answers how the run ended: `StepsSpent` exactly where it isn't over after `n`, and then a
+    /// further `run` goes on. Any other end is answered again by every later call: nothing changes, and nothing is written. Each term
+    /// that is displayed is written to `out` in a line of its own.
+    ///
+    /// A write that fails and want of memory stop the machine in the state before the instruction in which they came.
+    pub fn run<K: Sink>(&mut self, alloc: Global, n: u64, out: &mut K) -> End
+        ensures run { Ran n (machine_of self.old) (machine_of self.new)
+            (stream (K.written out.old) (K.written out.new) (K.faults out.old) (K.faults out.new)) result }
+        ensures over { HasEnded (machine_of self.old) → (self.new ≡ self.old) × (out.new ≡ out.old) }
+        ensures symbols { (machine_of self.new).symbols ≡ (machine_of self.old).symbols }
+        ensures faults_never_fall { K.faults out.old ≤ K.faults out.new }
+    {
+        match self.ended {
+            Some(ended) => ended.end(),
+            None => {
+                self.ended = run_on(
+                    &mut self.core,
+                    &mut self.cache,
+                    &self.symbols,
+                    alloc,
+                    n,
+                    out,
+                );
+                end_of(self.ended).unwrap_or(End::StepsSpent)
+            }
+        }
+    }
+
+    /// Writes the line of the result that the run ended with, which it must have: `value`, `error`, `exit` or `throw`, a space, the
+    /// term and a newline.
     ///
     /// # Errors
     ///
     /// - `WriteFault` where a write failed: then a front of the line was written.
     /// - `Memory` where there was no memory for the line: then nothing was written.
     pub fn write_result<K: Sink>(&self, alloc: Global, out: &mut K) -> Result<(), ResultFault>
-        requires { HasReturned (state_of self.now) }
-        ensures ok { OnOk result (Appends (K.written out.old) (K.written out.new) (result_line (state_of self.now))) }
-        ensures err { OnErr result
-            (AppendsPrefix (K.written out.old) (K.written out.new) (result_line (state_of self.now))) }
+        requires { HasResult ((machine_of self.now).state []) }
+        ensures ok { OnOk result (Appends (K.written out.old) (K.written out.new)
+            (result_line (machine_of self.now).symbols.definitions ((machine_of self.now).state []))) }
+        ensures err { OnErr result (AppendsPrefix (K.written out.old) (K.written out.new)
+            (result_line (machine_of self.now).symbols.definitions ((machine_of self.now).state []))) }
         ensures write_fault { IsErrOf result ResultFault.WriteFault → Rises (K.faults out.old) (K.faults out.new) }
         ensures memory { IsErrOf result ResultFault.Memory → out.new ≡ out.old }
         ensures faults_never_fall { K.faults out.old ≤ K.faults out.new }
     {
-        match self.ended {
-            Some(Ended::Returned(value)) => write_value(alloc, value, out),
-            _ => unreachable!(),
-        }
-    }
-
-    // The end of a run that is over.
-    fn end(&self) -> Option<End>
-        ensures { result ≡ end_of (state_of self.now) }
-    {
-        self.ended.map(|ended| match ended {
-            Ended::Returned(_) => End::Returned,
-            Ended::MachineFault(at) => End::MachineFault { at },
-        })
+        write_ended(alloc, &self.symbols, &self.core, self.ended, out)
     }
 }

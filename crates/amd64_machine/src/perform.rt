@@ -1,18 +1,20 @@
 // What each instruction does.
-ghost use Rattle.std.specs.Prelude.{◌≡◌, ◌<◌, ◌*◌, Some};
-ghost use Rattle.amd64_machine.specs.Arithmetic.{wrap, signed, double, divided as divided_by, flags_of, result_of, flags_of_product, no_flags, shifted, holds};
+ghost use Rattle.std.specs.Prelude.{◌≡◌, ◌*◌, ◌<◌};
+ghost use Rattle.amd64_form.specs.declared.reg.Reg.{Reg};
+ghost use Rattle.region_memory.specs.Regions.{word_at};
+ghost use Rattle.region_memory.specs.Regions.{with_word as regions_with};
+ghost use Rattle.amd64_machine.specs.Arithmetic.{wrap, signed, double, no_flags, flags_of, flags_of_product, result_of, shifted, holds};
+ghost use Rattle.amd64_machine.specs.Arithmetic.{divided as divided_by};
 ghost use Rattle.amd64_machine.specs.Fetch.{Here};
-ghost use Rattle.amd64_machine.specs.Machine.{On, act, word_in, served, pushed, popped, loaded, stored, gone_back, branched, quotient_put, unary, put_result, below};
-ghost use Rattle.amd64_machine.specs.Machine.{displaced as displaced_to, put as with_word};
-ghost use Rattle.amd64_machine.specs.Regions.{stack_with, word_at};
-ghost use Rattle.amd64_machine.specs.Seen.{seen, registers_seen};
+ghost use Rattle.amd64_machine.specs.Machine.{Goes, act, below, word_in, put_result, loaded, stored, pushed, popped, gone_back, branched, quotient_put, unary};
+ghost use Rattle.amd64_machine.specs.Machine.{displaced as displaced_to};
+ghost use Rattle.amd64_machine.specs.Machine.{put as registers_with};
+ghost use Rattle.amd64_machine.specs.Seen.{IsKept, step_seen, registers_seen};
 
 use super::arithmetic::{
     divided, flags_of, flags_of_difference, flags_of_product, holds, result_of, shifted, sign_word,
 };
-use super::integer::integer;
-use super::regions::{read, write};
-use super::state::{Core, Ended, Flags, get, put};
+use super::state::{Core, Did, Flags, get, put};
 use amd64_form::{BinaryOp, Condition, Inst, Reg, ShiftOp, UnaryOp};
 
 // An address with a displacement.
@@ -23,50 +25,55 @@ fn displaced(address: u64, offset: i32) -> u64
 }
 
 // Goes on at an address.
-fn go(core: &mut Core, target: u64) -> Option<Ended>
-    ensures { seen core.new result ≡ On target (registers_seen core.old.registers) core.old.flags core.old.stack.items }
+fn go(core: &mut Core, target: u64) -> Did
+    ensures step { step_seen core.new result ≡ Goes target (registers_seen core.old.registers) core.old.flags core.old.region }
+    ensures kept { IsKept core.old core.new result }
 {
     core.at = target;
-    None
+    Did::Goes
 }
 
 // Puts a word into a register and goes on.
-fn set(core: &mut Core, to: Reg, word: u64, next: u64) -> Option<Ended>
-    ensures { seen core.new result
-        ≡ On next (with_word to word (registers_seen core.old.registers)) core.old.flags core.old.stack.items }
+fn set(core: &mut Core, to: Reg, word: u64, next: u64) -> Did
+    ensures step { step_seen core.new result
+        ≡ Goes next (registers_with to word (registers_seen core.old.registers)) core.old.flags core.old.region }
+    ensures kept { IsKept core.old core.new result }
 {
     put(&mut core.registers, to, word);
     core.at = next;
-    None
+    Did::Goes
 }
 
 // Loads a register from the word at an address and goes on.
-fn load(core: &mut Core, code: &[u8], to: Reg, address: u64, next: u64) -> Option<Ended>
-    ensures { seen core.new result ≡ loaded core.old.at next to (registers_seen core.old.registers) core.old.flags
-        core.old.stack.items (word_at code.now core.old.stack.items address) }
+fn load(core: &mut Core, to: Reg, address: u64, next: u64) -> Did
+    ensures step { step_seen core.new result ≡ loaded next to (registers_seen core.old.registers) core.old.flags
+        core.old.region (word_at core.old.region address) }
+    ensures kept { IsKept core.old core.new result }
 {
-    match read(code, &core.stack, address) {
+    match core.region.read(address) {
         Some(word) => set(core, to, word, next),
-        None => Some(Ended::MachineFault(core.at)),
+        None => Did::Stops,
     }
 }
 
 // Stores a word at an address and goes on.
-fn store(core: &mut Core, code: &[u8], address: u64, word: u64, next: u64) -> Option<Ended>
-    ensures { seen core.new result ≡ stored core.old.at next (registers_seen core.old.registers) core.old.flags
-        (stack_with code.now core.old.stack.items address word) }
+fn store(core: &mut Core, address: u64, word: u64, next: u64) -> Did
+    ensures step { step_seen core.new result ≡ stored next (registers_seen core.old.registers) core.old.flags
+        (regions_with core.old.region address word) }
+    ensures kept { IsKept core.old core.new result }
 {
-    if !write(code, &mut core.stack, address, word) {
-        return Some(Ended::MachineFault(core.at));
+    if !core.region.write(address, word) {
+        return Did::Stops;
     }
     go(core, next)
 }
 
 // Does an operation of a register and a word, and goes on.
-fn binary(core: &mut Core, op: BinaryOp, to: Reg, word: u64, next: u64) -> Option<Ended>
-    ensures { let registers = registers_seen core.old.registers in
-        seen core.new result ≡ On next (put_result to (result_of op (word_in registers to) word) registers)
-        (flags_of op (word_in registers to) word) core.old.stack.items }
+fn binary(core: &mut Core, op: BinaryOp, to: Reg, word: u64, next: u64) -> Did
+    ensures step { let registers = registers_seen core.old.registers in
+        step_seen core.new result ≡ Goes next (put_result to (result_of op (word_in registers to) word) registers)
+        (flags_of op (word_in registers to) word) core.old.region }
+    ensures kept { IsKept core.old core.new result }
 {
     let before = get(&core.registers, to);
     core.flags = flags_of(op, before, word);
@@ -77,10 +84,11 @@ fn binary(core: &mut Core, op: BinaryOp, to: Reg, word: u64, next: u64) -> Optio
 }
 
 // Divides rdx:rax by a word and goes on.
-fn divide(core: &mut Core, by: u64, next: u64) -> Option<Ended>
-    ensures { let registers = registers_seen core.old.registers in
-        seen core.new result ≡ quotient_put core.old.at next registers core.old.stack.items
+fn divide(core: &mut Core, by: u64, next: u64) -> Did
+    ensures step { let registers = registers_seen core.old.registers in
+        step_seen core.new result ≡ quotient_put next registers core.old.region
         (divided_by (double (word_in registers Reg.Rdx) (word_in registers Reg.Rax)) (signed by)) }
+    ensures kept { IsKept core.old core.new result }
 {
     let high = get(&core.registers, Reg::Rdx);
     let low = get(&core.registers, Reg::Rax);
@@ -90,14 +98,15 @@ fn divide(core: &mut Core, by: u64, next: u64) -> Option<Ended>
             put(&mut core.registers, Reg::Rax, quotient);
             set(core, Reg::Rdx, remainder, next)
         }
-        None => Some(Ended::MachineFault(core.at)),
+        None => Did::Stops,
     }
 }
 
 // Does an operation of one register and goes on.
-fn unary(core: &mut Core, op: UnaryOp, of: Reg, next: u64) -> Option<Ended>
-    ensures { seen core.new result ≡ unary core.old.at next op of (registers_seen core.old.registers) core.old.flags
-        core.old.stack.items }
+fn unary(core: &mut Core, op: UnaryOp, of: Reg, next: u64) -> Did
+    ensures step { step_seen core.new result ≡ unary next op of (registers_seen core.old.registers) core.old.flags
+        core.old.region }
+    ensures kept { IsKept core.old core.new result }
 {
     let word = get(&core.registers, of);
     match op {
@@ -111,10 +120,11 @@ fn unary(core: &mut Core, op: UnaryOp, of: Reg, next: u64) -> Option<Ended>
 }
 
 // Multiplies a register by a word and goes on.
-fn multiply(core: &mut Core, to: Reg, word: u64, next: u64) -> Option<Ended>
-    ensures { let registers = registers_seen core.old.registers in
-        seen core.new result ≡ On next (with_word to (wrap (word_in registers to * word)) registers)
-        (flags_of_product (word_in registers to) word) core.old.stack.items }
+fn multiply(core: &mut Core, to: Reg, word: u64, next: u64) -> Did
+    ensures step { let registers = registers_seen core.old.registers in
+        step_seen core.new result ≡ Goes next (registers_with to (wrap (word_in registers to * word)) registers)
+        (flags_of_product (word_in registers to) word) core.old.region }
+    ensures kept { IsKept core.old core.new result }
 {
     let before = get(&core.registers, to);
     core.flags = flags_of_product(before, word);
@@ -122,11 +132,12 @@ fn multiply(core: &mut Core, to: Reg, word: u64, next: u64) -> Option<Ended>
 }
 
 // Shifts a register and goes on.
-fn shift(core: &mut Core, op: ShiftOp, to: Reg, count: u8, next: u64) -> Option<Ended>
+fn shift(core: &mut Core, op: ShiftOp, to: Reg, count: u8, next: u64) -> Did
     requires { count < 64 }
-    ensures { let registers = registers_seen core.old.registers in
-        seen core.new result ≡ On next (with_word to (shifted op (word_in registers to) count) registers)
-        no_flags core.old.stack.items }
+    ensures step { let registers = registers_seen core.old.registers in
+        step_seen core.new result ≡ Goes next (registers_with to (shifted op (word_in registers to) count) registers)
+        no_flags core.old.region }
+    ensures kept { IsKept core.old core.new result }
 {
     let before = get(&core.registers, to);
     core.flags = Flags::UNKNOWN;
@@ -134,75 +145,66 @@ fn shift(core: &mut Core, op: ShiftOp, to: Reg, count: u8, next: u64) -> Option<
 }
 
 // Pushes a word and goes on.
-fn push(core: &mut Core, code: &[u8], word: u64, next: u64) -> Option<Ended>
-    ensures { let registers = registers_seen core.old.registers in
-        seen core.new result ≡ pushed core.old.at next registers core.old.flags
-        (stack_with code.now core.old.stack.items (below (word_in registers Reg.Rsp)) word) }
+fn push(core: &mut Core, word: u64, next: u64) -> Did
+    ensures step { let registers = registers_seen core.old.registers in
+        step_seen core.new result ≡ pushed next registers core.old.flags
+        (regions_with core.old.region (below (word_in registers Reg.Rsp)) word) }
+    ensures kept { IsKept core.old core.new result }
 {
     let top = get(&core.registers, Reg::Rsp).wrapping_sub(8);
-    if !write(code, &mut core.stack, top, word) {
-        return Some(Ended::MachineFault(core.at));
+    if !core.region.write(top, word) {
+        return Did::Stops;
     }
     set(core, Reg::Rsp, top, next)
 }
 
 // Pops a word into a register and goes on.
-fn pop(core: &mut Core, code: &[u8], r: Reg, next: u64) -> Option<Ended>
-    ensures { let registers = registers_seen core.old.registers in
-        seen core.new result ≡ popped core.old.at next r registers core.old.flags core.old.stack.items
-        (word_at code.now core.old.stack.items (word_in registers Reg.Rsp)) }
+fn pop(core: &mut Core, r: Reg, next: u64) -> Did
+    ensures step { let registers = registers_seen core.old.registers in
+        step_seen core.new result ≡ popped next r registers core.old.flags core.old.region
+        (word_at core.old.region (word_in registers Reg.Rsp)) }
+    ensures kept { IsKept core.old core.new result }
 {
     let top = get(&core.registers, Reg::Rsp);
-    let Some(word) = read(code, &core.stack, top) else {
-        return Some(Ended::MachineFault(core.at));
+    let Some(word) = core.region.read(top) else {
+        return Did::Stops;
     };
     put(&mut core.registers, Reg::Rsp, top.wrapping_add(8));
     set(core, r, word, next)
 }
 
 // Pops an address and goes on there.
-fn go_back(core: &mut Core, code: &[u8]) -> Option<Ended>
-    ensures { let registers = registers_seen core.old.registers in
-        seen core.new result ≡ gone_back core.old.at registers core.old.flags core.old.stack.items
-        (word_at code.now core.old.stack.items (word_in registers Reg.Rsp)) }
+fn go_back(core: &mut Core) -> Did
+    ensures step { let registers = registers_seen core.old.registers in
+        step_seen core.new result ≡ gone_back registers core.old.flags core.old.region
+        (word_at core.old.region (word_in registers Reg.Rsp)) }
+    ensures kept { IsKept core.old core.new result }
 {
     let top = get(&core.registers, Reg::Rsp);
-    let Some(target) = read(code, &core.stack, top) else {
-        return Some(Ended::MachineFault(core.at));
+    let Some(target) = core.region.read(top) else {
+        return Did::Stops;
     };
     set(core, Reg::Rsp, top.wrapping_add(8), target)
 }
 
 // Goes on at a target where a condition holds, else at the next instruction.
-fn branch(core: &mut Core, condition: Condition, target: u64, next: u64) -> Option<Ended>
-    ensures { seen core.new result ≡ branched core.old.at target next (registers_seen core.old.registers) core.old.flags
-        core.old.stack.items (holds condition core.old.flags) }
+fn branch(core: &mut Core, condition: Condition, target: u64, next: u64) -> Did
+    ensures step { step_seen core.new result ≡ branched target next (registers_seen core.old.registers) core.old.flags
+        core.old.region (holds condition core.old.flags) }
+    ensures kept { IsKept core.old core.new result }
 {
     match holds(condition, core.flags) {
         Some(true) => go(core, target),
         Some(false) => go(core, next),
-        None => Some(Ended::MachineFault(core.at)),
+        None => Did::Stops,
     }
 }
 
-// Calls the service whose number is in rax.
-fn serve(core: &Core) -> Ended
-    ensures { seen core.now (Some result) ≡ served core.now.at (registers_seen core.now.registers) }
-{
-    let fault = Ended::MachineFault(core.at);
-    if get(&core.registers, Reg::Rax) != 0 {
-        return fault;
-    }
-    match integer(get(&core.registers, Reg::Rdi)) {
-        Some(value) => Ended::Returned(value),
-        None => fault,
-    }
-}
-
-// Does the instruction that was fetched, with the next one's address, and answers how the run ended by it.
-pub(crate) fn perform(core: &mut Core, code: &[u8], inst: Inst, next: u64) -> Option<Ended>
-    ensures { seen core.new result ≡ act code.now core.old.at (Here inst next)
-        (registers_seen core.old.registers) core.old.flags core.old.stack.items }
+// Does an instruction, with the next one's address. A service isn't done: nothing changes where it is called.
+pub(crate) fn perform(core: &mut Core, inst: Inst, next: u64) -> Did
+    ensures step { step_seen core.new result ≡ act (Here inst next)
+        (registers_seen core.old.registers) core.old.flags core.old.region }
+    ensures kept { IsKept core.old core.new result }
 {
     match inst {
         Inst::Move { to, from } => {
@@ -211,12 +213,12 @@ pub(crate) fn perform(core: &mut Core, code: &[u8], inst: Inst, next: u64) -> Op
         }
         Inst::Load { to, base, offset } => {
             let address = displaced(get(&core.registers, base), offset);
-            load(core, code, to, address, next)
+            load(core, to, address, next)
         }
         Inst::Store { base, offset, from } => {
             let address = displaced(get(&core.registers, base), offset);
             let word = get(&core.registers, from);
-            store(core, code, address, word, next)
+            store(core, address, word, next)
         }
         Inst::LoadConstant { to, value } => set(core, to, value, next),
         Inst::Binary { op, to, from } => {
@@ -245,11 +247,11 @@ pub(crate) fn perform(core: &mut Core, code: &[u8], inst: Inst, next: u64) -> Op
             set(core, to, address, next)
         }
         Inst::Jump(offset) => go(core, displaced(next, offset)),
-        Inst::Call(offset) => push(core, code, next, displaced(next, offset)),
+        Inst::Call(offset) => push(core, next, displaced(next, offset)),
         Inst::JumpIf(condition, offset) => branch(core, condition, displaced(next, offset), next),
         Inst::CallRegister(r) => {
             let target = get(&core.registers, r);
-            push(core, code, next, target)
+            push(core, next, target)
         }
         Inst::JumpRegister(r) => {
             let target = get(&core.registers, r);
@@ -257,10 +259,10 @@ pub(crate) fn perform(core: &mut Core, code: &[u8], inst: Inst, next: u64) -> Op
         }
         Inst::Push(r) => {
             let word = get(&core.registers, r);
-            push(core, code, word, next)
+            push(core, word, next)
         }
-        Inst::Pop(r) => pop(core, code, r, next),
-        Inst::Return => go_back(core, code),
-        Inst::Syscall => Some(serve(core)),
+        Inst::Pop(r) => pop(core, r, next),
+        Inst::Return => go_back(core),
+        Inst::Syscall => Did::Calls(next),
     }
 }

@@ -1,13 +1,21 @@
 // The line of a result.
-ghost use Rattle.std.specs.Prelude.{◌≡◌, ◌≤◌, OnOk, OnErr, IsErrOf};
+ghost use Rattle.std.specs.Prelude.{◌≡◌, ◌≤◌, [], length, OnOk, OnErr, IsErrOf};
 ghost use Rattle.std.specs.Io.KnownBytes.{Appends};
 ghost use Rattle.hipe_edge.specs.Bytes.{AppendsPrefix};
 ghost use Rattle.hipe_edge.specs.Counts.{Rises};
-ghost use Rattle.amd64_machine.specs.Result.{value_line};
+ghost use Rattle.hipe_terms.specs.Shown.{Names};
+ghost use Rattle.region_memory.specs.declared.layout.TheConstants.{HEAP_LIMIT};
+ghost use Rattle.heap_terms.specs.Seen.{symbols_of};
+ghost use Rattle.heap_terms.specs.Terms.{term_at};
+ghost use Rattle.amd64_machine.specs.Result.{class_word, result_line};
+ghost use Rattle.amd64_machine.specs.Seen.{class_of, state_ended, state_seen, term_line, undefined_line};
 ghost use Rattle.amd64_machine.specs.declared.result.ResultFault.{ResultFault};
 ghost use Rattle.amd64_machine.specs.declared.result.ResultFault.TheVariants.{Memory as NoMemory, WriteFault as NotWritten};
 
+use super::state::{Core, Ended};
+use heap_terms::{Symbols, show_word};
 use hipe_edge::{Sink, WriteFault, write_line};
+use machine_services::Class;
 use std::alloc::{AllocError, Global};
 
 /// Why the line of a result wasn't written.
@@ -35,19 +43,109 @@ impl From<WriteFault> for ResultFault {
     }
 }
 
-// Writes the line of a value that was returned.
-pub(crate) fn write_value<K: Sink>(
+// The word before what was raised.
+fn class_word(class: Class) -> &'static str
+    ensures { result.now ≡ class_word (class_of class) }
+{
+    match class {
+        Class::Error => "error ",
+        Class::Exit => "exit ",
+        Class::Throw => "throw ",
+    }
+}
+
+// Writes the text of the term for which a word stands behind another text, in a line. Where it stands for none, it writes nothing.
+fn write_term<K: Sink>(
     alloc: Global,
-    value: i64,
+    before: &str,
+    symbols: &Symbols,
+    heap: &[u64],
+    word: u64,
     out: &mut K,
 ) -> Result<(), ResultFault>
-    ensures ok { OnOk result (Appends (K.written out.old) (K.written out.new) (value_line value)) }
-    ensures err { OnErr result (AppendsPrefix (K.written out.old) (K.written out.new) (value_line value)) }
+    requires { length heap.now ≤ HEAP_LIMIT }
+    ensures ok { OnOk result (Appends (K.written out.old) (K.written out.new)
+        (term_line before.now (symbols_of symbols.now).definitions (term_at (symbols_of symbols.now) heap.now word))) }
+    ensures err { OnErr result (AppendsPrefix (K.written out.old) (K.written out.new)
+        (term_line before.now (symbols_of symbols.now).definitions (term_at (symbols_of symbols.now) heap.now word))) }
     ensures write_fault { IsErrOf result ResultFault.WriteFault → Rises (K.faults out.old) (K.faults out.new) }
     ensures memory { IsErrOf result ResultFault.Memory → out.new ≡ out.old }
     ensures faults_never_fall { K.faults out.old ≤ K.faults out.new }
 {
-    let line = format!(in alloc; "value {value}\n")?;
+    let mut line = String::new(alloc);
+    line.push_str(before)?;
+    if !show_word(alloc, symbols, heap, word, &mut line)? {
+        return Ok(());
+    }
+    line.push('\n')?;
     write_line(out, line.as_bytes())?;
     Ok(())
+}
+
+// Writes the line of a call that isn't exported.
+fn write_undefined<K: Sink>(out: &mut K) -> Result<(), ResultFault>
+    ensures ok { (names : Names) → OnOk result (Appends (K.written out.old) (K.written out.new) (undefined_line names)) }
+    ensures err { (names : Names) → OnErr result (AppendsPrefix (K.written out.old) (K.written out.new) (undefined_line names)) }
+    ensures write_fault { OnErr result (Rises (K.faults out.old) (K.faults out.new)) }
+    ensures memory { IsErrOf result ResultFault.Memory → out.new ≡ out.old }
+    ensures faults_never_fall { K.faults out.old ≤ K.faults out.new }
+{
+    match write_line(out, b"error 'undef'\n") {
+        Ok(()) => Ok(()),
+        Err(_) => Err(ResultFault::WriteFault),
+    }
+}
+
+// Writes the line of the result with which a run is over, if there is one.
+fn write_over<K: Sink>(
+    alloc: Global,
+    symbols: &Symbols,
+    core: &Core,
+    ended: Ended,
+    out: &mut K,
+) -> Result<(), ResultFault>
+    ensures ok { OnOk result (Appends (K.written out.old) (K.written out.new)
+        (result_line (symbols_of symbols.now).definitions (state_ended (symbols_of symbols.now) core.now ended []))) }
+    ensures err { OnErr result (AppendsPrefix (K.written out.old) (K.written out.new)
+        (result_line (symbols_of symbols.now).definitions (state_ended (symbols_of symbols.now) core.now ended []))) }
+    ensures write_fault { IsErrOf result ResultFault.WriteFault → Rises (K.faults out.old) (K.faults out.new) }
+    ensures memory { IsErrOf result ResultFault.Memory → out.new ≡ out.old }
+    ensures faults_never_fall { K.faults out.old ≤ K.faults out.new }
+{
+    core.region.limits();
+    let heap = core.region.heap();
+    match ended {
+        Ended::Returned(word) => write_term(alloc, "value ", symbols, heap, word, out),
+        Ended::Raised(class, word) => {
+            write_term(alloc, class_word(class), symbols, heap, word, out)
+        }
+        Ended::Undefined => write_undefined(out),
+        Ended::HeapFull => Ok(()),
+        Ended::StackFull => Ok(()),
+        Ended::MachineFault(_) => Ok(()),
+        Ended::WriteFault => Ok(()),
+        Ended::Memory => Ok(()),
+    }
+}
+
+// Writes the line of the result that a run ended with, if it ended with one.
+pub(crate) fn write_ended<K: Sink>(
+    alloc: Global,
+    symbols: &Symbols,
+    core: &Core,
+    ended: Option<Ended>,
+    out: &mut K,
+) -> Result<(), ResultFault>
+    ensures ok { OnOk result (Appends (K.written out.old) (K.written out.new)
+        (result_line (symbols_of symbols.now).definitions (state_seen (symbols_of symbols.now) core.now ended []))) }
+    ensures err { OnErr result (AppendsPrefix (K.written out.old) (K.written out.new)
+        (result_line (symbols_of symbols.now).definitions (state_seen (symbols_of symbols.now) core.now ended []))) }
+    ensures write_fault { IsErrOf result ResultFault.WriteFault → Rises (K.faults out.old) (K.faults out.new) }
+    ensures memory { IsErrOf result ResultFault.Memory → out.new ≡ out.old }
+    ensures faults_never_fall { K.faults out.old ≤ K.faults out.new }
+{
+    match ended {
+        Some(ended) => write_over(alloc, symbols, core, ended, out),
+        None => Ok(()),
+    }
 }

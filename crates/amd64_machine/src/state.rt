@@ -1,11 +1,19 @@
 // The state between two instructions.
-ghost use Rattle.std.specs.Prelude.{◌≡◌, ◌+◌, ◌≤◌, ◌<◌, ◌^◌};
+ghost use Rattle.std.specs.Prelude.{◌≡◌, ◌+◌, ◌-◌, ◌*◌, ◌≤◌, [], None, length};
 ghost use Rattle.amd64_form.specs.Reg.{number};
 ghost use Rattle.amd64_machine.specs.Machine.{word_in};
 ghost use Rattle.amd64_machine.specs.Machine.{put as registers_with};
-ghost use Rattle.amd64_machine.specs.Seen.{registers_seen};
+ghost use Rattle.heap_terms.specs.Shapes.{Symbols};
+ghost use Rattle.image_load.specs.Seen.{beginning_seen};
+ghost use Rattle.amd64_machine.specs.Loading.{begun as state_begun};
+ghost use Rattle.amd64_machine.specs.Loading.{first_registers as registers_first};
+ghost use Rattle.amd64_machine.specs.Seen.{HasTerm, end_seen, ends_seen, registers_seen, state_seen, stopped_seen};
 
+use super::machine::End;
 use amd64_form::Reg;
+use image_load::Start;
+use machine_services::Class;
+use region_memory::Region;
 
 /// The four flags that instructions set and test, each known or unknown.
 #[derive(Clone, Copy, Debug, PartialEq, Eq)]
@@ -53,12 +61,122 @@ pub(crate) struct Core {
     pub(crate) at: u64,
     pub(crate) registers: Registers,
     pub(crate) flags: Flags,
-    pub(crate) stack: Vec<u64>,
+    pub(crate) region: Region,
 }
 
-// How a run is over: with an integer, or at an address from which there is no next state.
+// What an instruction came to.
+#[derive(Clone, Copy)]
+pub(crate) enum Did {
+    // It was done.
+    Goes,
+    // There is no next state.
+    Stops,
+    // It calls a service, and the next instruction is at this address.
+    Calls(u64),
+}
+
+// How a run is over. `Returned` and `Raised` have the word of the value or the reason.
 #[derive(Clone, Copy)]
 pub(crate) enum Ended {
-    Returned(i64),
+    Returned(u64),
+    Raised(Class, u64),
+    // The call isn't exported.
+    Undefined,
+    HeapFull,
+    StackFull,
+    // There is no next state from this address.
     MachineFault(u64),
+    // A line couldn't be written.
+    WriteFault,
+    // There was no memory for a service.
+    Memory,
+}
+
+impl Ended {
+    // What a run answers that is over so.
+    pub(crate) fn end(self) -> End
+        ensures { result ≡ end_seen self }
+    {
+        match self {
+            Ended::Returned(_) => End::Returned,
+            Ended::Raised(class, _) => End::Raised { class },
+            Ended::Undefined => End::Raised {
+                class: Class::Error,
+            },
+            Ended::HeapFull => End::HeapFull,
+            Ended::StackFull => End::StackFull,
+            Ended::MachineFault(at) => End::MachineFault { at },
+            Ended::WriteFault => End::WriteFault,
+            Ended::Memory => End::Memory,
+        }
+    }
+}
+
+// The end of a run that may be over.
+pub(crate) fn end_of(ended: Option<Ended>) -> Option<End>
+    ensures { result ≡ ends_seen ended }
+{
+    match ended {
+        Some(ended) => Some(ended.end()),
+        None => None,
+    }
+}
+
+// The registers at the first instruction: the words of the arguments, the heap's free place and the stack's top.
+#[tactic(auto, using(crate::proofs::Start::zero_registers))]
+fn first_registers(arguments: [u64; 4], free: u64, top: u64) -> Registers
+    ensures { registers_seen result ≡ registers_first arguments free top }
+{
+    let mut registers = [0; 16];
+    put(&mut registers, Reg::Rsp, top);
+    put(&mut registers, Reg::R15, free);
+    put(&mut registers, Reg::R9, arguments[3]);
+    put(&mut registers, Reg::R8, arguments[2]);
+    put(&mut registers, Reg::Rsi, arguments[1]);
+    put(&mut registers, Reg::Rdi, arguments[0]);
+    registers
+}
+
+// What a program begins with.
+pub(crate) fn begun(region: Region, start: Start) -> (Core, Option<Ended>)
+    ensures state { (symbols : Symbols) → state_seen symbols result.0 result.1 [] ≡ state_begun region (beginning_seen start) }
+    ensures code { result.0.region.code ≡ region.code }
+    ensures stopped { stopped_seen result.1 ≡ None }
+    ensures term { (symbols : Symbols) → HasTerm symbols result.0.region.heap result.1 }
+{
+    match start {
+        Start::Undefined => (idle(region), Some(Ended::Undefined)),
+        Start::HeapFull => (idle(region), Some(Ended::HeapFull)),
+        Start::Ready {
+            at,
+            arguments,
+            free,
+        } => {
+            region.limits();
+            let top = region.stack_end() - 8;
+            let registers = first_registers(arguments, free, top);
+            let flags = Flags::UNKNOWN;
+            (
+                Core {
+                    at,
+                    registers,
+                    flags,
+                    region,
+                },
+                None,
+            )
+        }
+    }
+}
+
+// A state that isn't looked at.
+fn idle(region: Region) -> Core
+    ensures { result.region ≡ region }
+{
+    Core {
+        at: 0,
+        registers: [0; 16],
+        flags: Flags::UNKNOWN,
+        region,
+    }
 }

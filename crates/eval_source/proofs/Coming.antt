@@ -23,7 +23,8 @@ use Rattle.eval_source.specs.Outcome as O
 use Rattle.eval_source.specs.Refusing.{IsStop}
 use Rattle.eval_source.specs.Refusing as R
 use Rattle.eval_source.specs.Stops.{stop_of_source, stop_of_call}
-use Rattle.eval_source.specs.Streams.{stream, HadLeft, WasRead}
+use Rattle.hipe_edge.specs.Streams.{stream, HadLeft}
+use Rattle.eval_source.specs.Outcome.{WasRead}
 use Rattle.eval_source.specs.declared.command.Command as Rust
 use Rattle.eval_source.specs.Commands.{command_in}
 use Rattle.eval_source.specs.Words.{Command, command_of}

@@ -8,7 +8,8 @@ use Rattle.eval_source.specs.declared.stop.Stop.{Stop}
 use Rattle.eval_source.specs.Answers.{ran, refused, Expected}
 use Rattle.eval_source.specs.Outcome.{Reported, whole, broken, Ended, Came, wrote, wrote_front, refused_words, refused_text, not_read, no_memory, Did, answered, refused_unread, read_failed, write_failed, line_lost, memory_wanting}
 use Rattle.eval_source.specs.Stops.{status_of, status_unwritten, line_of}
-use Rattle.eval_source.specs.Streams.{Stream, Faulted, Untouched, Gained, GainedPrefix, HadLeft, WasRead}
+use Rattle.hipe_edge.specs.Streams.{Stream, Faulted, Untouched, Gained, GainedPrefix, HadLeft}
+use Rattle.eval_source.specs.Outcome.{WasRead}
 
 -- nothing was written: no text is the front of each
 untouched_gains : (sink : Stream) → Untouched sink → Gained sink []

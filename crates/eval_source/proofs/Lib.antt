@@ -3,3 +3,5 @@ pub mod Reading
 pub mod Naming
 pub mod Coming
 pub mod Doing
+pub mod Answering
+pub mod Unique

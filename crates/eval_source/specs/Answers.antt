@@ -49,3 +49,8 @@ pub data Expected (words : List (List ℕ)) (bytes : List ℕ) : Answer → Type
   bad_words : command_of words ≡ None → Expected words bytes (refused Stop.Words)
   no_call : (c : Command) (p : Place) → command_of words ≡ Some c → ((call : Call) → ¬ ReadsCall c.call call) → IsNoCall c.call p → Expected words bytes (refused (Stop.Call p))
   of_call : {answer : Answer} (c : Command) (call : Call) → command_of words ≡ Some c → ReadsCall c.call call → AnswerTo call c.fuel bytes answer → Expected words bytes answer
+
+-- words and bytes have an answer, and one alone
+pub record HaveOneAnswer : Type 0 where
+  pub some : (words : List (List ℕ)) (bytes : List ℕ) → (a : Answer) × Expected words bytes a
+  pub one : (words : List (List ℕ)) (bytes : List ℕ) (a b : Answer) → Expected words bytes a → Expected words bytes b → a ≡ b

@@ -4,6 +4,5 @@ pub mod Commands
 pub mod Stops
 pub mod Texts
 pub mod Answers
-pub mod Streams
 pub mod Outcome
 pub mod Refusing

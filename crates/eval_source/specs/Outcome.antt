@@ -3,7 +3,12 @@ use Rattle.std.specs.Prelude.{◌≡◌, ◌⊎◌, ℕ, List, Result, Ok, Err}
 use Rattle.eval_source.specs.declared.stop.Stop.{Stop}
 use Rattle.eval_source.specs.Answers.{Answer, refused, ran, Expected}
 use Rattle.eval_source.specs.Stops.{status_of, status_unwritten, line_of}
-use Rattle.eval_source.specs.Streams.{Stream, Faulted, Untouched, Gained, GainedPrefix, GainedUnlessFaulted, HadLeft, WasRead}
+use Rattle.hipe_edge.specs.Streams.{Stream, Faulted, Untouched, Gained, GainedPrefix, GainedUnlessFaulted, HadLeft, WasReadWithin}
+use Rattle.eval_source.specs.declared.limits.TheConstants.{TEXT_LIMIT}
+
+-- the source was read to its end, or one byte past the limit
+abbrev pub WasRead : Stream → List ℕ → Type 0
+WasRead source bytes = WasReadWithin TEXT_LIMIT source bytes
 
 -- the line of a stop was written and the status is its own, or the line couldn't be written
 pub data Reported (stop : Stop) (err : Stream) (status : ℕ) : Type 0 where

@@ -5,7 +5,7 @@ ghost use Rattle.core_reader.specs.Language.{Reads};
 ghost use Rattle.eval_source.specs.Answers.{RunWrites};
 ghost use Rattle.eval_source.specs.Refusing.{IsStop};
 ghost use Rattle.eval_source.specs.Outcome.{Came};
-ghost use Rattle.eval_source.specs.Streams.{stream};
+ghost use Rattle.hipe_edge.specs.Streams.{stream};
 
 use super::limits::TEXT_LIMIT;
 use super::lines::{Lines, lines_of};

@@ -2,7 +2,7 @@
 ghost use Rattle.std.specs.Prelude.{◌≡◌, ◌⊎◌, ◌++◌, [], ◌∷◌, codes, decimal, string_bytes, IfOk, OnOk};
 ghost use Rattle.eval_source.specs.declared.stop.Stop.{Stop as AStop};
 ghost use Rattle.eval_source.specs.Outcome.{Reported, Ended};
-ghost use Rattle.eval_source.specs.Streams.{stream};
+ghost use Rattle.hipe_edge.specs.Streams.{stream};
 ghost use Rattle.eval_source.specs.Stops.{status_of, status_unwritten, name_of, rule_name, line_of, stop_of_source, stop_of_call, stop_of_reading, stop_of_lint};
 
 use core_ast::{Place, Rule};

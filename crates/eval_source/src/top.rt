@@ -1,12 +1,19 @@
 // The program as one call, over any source and any sinks.
 ghost use Rattle.std.specs.Prelude.{map, string_bytes};
+ghost use Rattle.eval_source.specs.Answers.{HaveOneAnswer};
 ghost use Rattle.eval_source.specs.Outcome.{Did};
-ghost use Rattle.eval_source.specs.Streams.{stream};
+ghost use Rattle.hipe_edge.specs.Streams.{stream};
 
 use super::run::run_source;
 use super::stop::report;
 use hipe_edge::{Sink, Source};
 use std::alloc::Global;
+
+/// The words and the bytes of an input have an answer, and one alone. So what a call of a module writes is what the definitions of
+/// the language give, and nothing else.
+pub fn one_answer()
+    ensures { HaveOneAnswer }
+{}
 
 /// Runs the call that the words name, of the module whose text is the source, as the definitions of the language say, and answers
 /// the exit status. The words are CALL, as `'f'(1,[2])`, and perhaps `--fuel N`: the applications that the run may make.

@@ -3,3 +3,4 @@ pub mod Counts
 pub mod Bytes
 pub mod InMemory
 pub mod Adapters
+pub mod Streams

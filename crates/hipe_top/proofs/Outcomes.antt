@@ -6,7 +6,8 @@ use Rattle.hipe_top.specs.declared.stop.Stop.{Stop}
 use Rattle.hipe_top.specs.declared.words.Mode.{Mode}
 use Rattle.hipe_top.specs.Answers.{refused, answered, AnswerOf, bad_words, of_mode}
 use Rattle.hipe_top.specs.Command.{IsCommand, words_of}
-use Rattle.hipe_top.specs.Outcome.{Stream, stream, Faulted, Untouched, Gained, GainedPrefix, GainedUnlessFaulted, HadLeft, WasRead, Reported, whole, broken, Ended, DidText, did, not_written, refused_as, no_memory, DidSource, did_text, not_read, out_of_memory, EndedByItself, Answered, RanOutOfMemory, ReadFailed, WriteFailed, on_out, on_err, after_failed_read, Accepts}
+use Rattle.hipe_edge.specs.Streams.{Stream, stream, Faulted, Untouched, Gained, GainedPrefix, GainedUnlessFaulted, HadLeft}
+use Rattle.hipe_top.specs.Outcome.{WasRead, Reported, whole, broken, Ended, DidText, did, not_written, refused_as, no_memory, DidSource, did_text, not_read, out_of_memory, EndedByItself, Answered, RanOutOfMemory, ReadFailed, WriteFailed, on_out, on_err, after_failed_read, Accepts}
 use Rattle.hipe_top.specs.Stops.{status_of, status_unwritten, line_of}
 use Rattle.hipe_top.proofs.Running.{keeps_same}
 use Rattle.hipe_top.proofs.Taking.{refused_status, expected_accepts}

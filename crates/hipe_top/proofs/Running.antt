@@ -1,5 +1,5 @@
 -- From what the calls below promise to what running a text comes to.
-use Rattle.std.proofs.Common.{◌≡◌, ℕ, zero, suc, ◌+◌, ◌<◌, ◌≤◌, ℤ, List, ◌++◌, length, take, Option, Some, None, Result, Err, refl, sym, ap, ◌∙◌, subst, arith, length-append, append-nil}
+use Rattle.std.proofs.Common.{◌≡◌, ℕ, ◌+◌, ◌<◌, ◌≤◌, List, ◌++◌, length, take, Option, Some, None, Result, Err, refl, sym, ap, ◌∙◌, subst, arith, length-append, append-nil}
 use Rattle.std.specs.Prelude.{IsErrOf, IfErr, ◌↔◌}
 use Rattle.std.specs.Io.KnownBytes.{Keeps, Consumes, IsAtEnd}
 use Rattle.std.proofs.Math.Seq.{take-append_seam}
@@ -22,37 +22,20 @@ use Rattle.core_sum.specs.declared.sum.SumRefusal.{SumRefusal}
 use Rattle.core_sum.specs.Form.{main, Exports, IsFirstUnbuilt, IsSumModule, IsSumRefusal}
 use Rattle.amd64_machine.specs.declared.result.ResultFault.{ResultFault}
 use Rattle.amd64_machine.specs.declared.result.ResultFault.TheVariants as results
-use Rattle.amd64_machine.specs.Machine.{State, Over, Ending, Returned, start, machine_step, machine_run}
-use Rattle.amd64_machine.specs.Result.{value_line}
+use Rattle.sum_code.specs.Code.{image_for, EndsWith}
+use Rattle.sum_run.specs.Run.{value_line}
 use Rattle.hipe_top.specs.declared.limits.TheConstants.{TEXT_LIMIT}
 use Rattle.hipe_top.specs.declared.stop.Stop.{Stop}
 use Rattle.hipe_top.specs.declared.words.Mode.{Mode}
 use Rattle.hipe_top.specs.declared.words.Mode.TheVariants.{Check, Run}
 use Rattle.hipe_top.specs.Answers.{too_long, not_read, not_good, good, not_exported, not_built, sum}
-use Rattle.hipe_top.specs.Code.{code_for, EndsWithin, EndsWith}
 use Rattle.hipe_top.specs.Doing as D
 use Rattle.hipe_top.specs.Doing.{RanSum, returned, WroteOk, wrote, wrote_front, IsStop, IsRunStop}
-use Rattle.hipe_top.specs.Outcome.{Stream, stream, Untouched, HadLeft, WasRead, Reported, Ended, DidText, did, refused_as, DidSource, did_text, out_of_memory}
+use Rattle.hipe_edge.specs.Streams.{Stream, stream, HadLeft}
+use Rattle.hipe_top.specs.Outcome.{WasRead, Reported, Ended, DidText, did, refused_as, DidSource, did_text, out_of_memory}
 use Rattle.hipe_top.specs.Outcome as O
 use Rattle.hipe_top.specs.Stops.{stop_of_source, stop_of_reading, stop_of_lint, stop_of_result}
 use Rattle.hipe_top.specs.Texts.{IsGoodText}
-
--- ---- the machine
-
-over_stays : (code : List ℕ) (n : ℕ) (e : Ending) → machine_run code n (Over e) ≡ Over e
-over_stays code zero e = refl
-over_stays code (suc n) e = over_stays code n e
-
--- a run that is over after n steps is so after more
-over_after : (code : List ℕ) (n m : ℕ) (s : State) (e : Ending) → n ≤ m → machine_run code n s ≡ Over e → machine_run code m s ≡ Over e
-over_after code zero m s e le over = ap (machine_run code m) over ∙ over_stays code m e
-over_after code (suc n) zero s e le over = absurd (omega arith)
-over_after code (suc n) (suc m) s e le over = over_after code n m (machine_step code s) e (omega arith) over
-
--- where the machine that was started with the code is after all its steps
-pub ends_over : (code held : List ℕ) (most steps : ℕ) (first last : State) (v : ℤ) → held ≡ code → first ≡ start → last ≡ machine_run held steps first → most ≤ steps → EndsWithin most code v → last ≡ Over (Returned v)
-ends_over code held most steps first last v same begins goes le ends =
-    goes ∙ ap (λ c. machine_run c steps first) same ∙ ap (machine_run code steps) begins ∙ over_after code ends.0 steps start (Returned v) (omega (arith, ends.1)) ends.2
 
 -- ---- streams
 
@@ -60,14 +43,12 @@ pub keeps_same : (known : Option (List ℕ)) → Keeps known known
 keeps_same None = tt
 keeps_same (Some xs) = refl
 
-pub sum_without_memory : (e : Sum) (w : Option (List ℕ)) (f : ℕ) → RanSum e (stream w w f f) (Err Stop.Memory)
-sum_without_memory e w f = D.no_memory (keeps_same w)
-
 -- what was written of the line where it couldn't be written whole
-pub sum_not_written : (e : Sum) (fault : ResultFault) (w w' : Option (List ℕ)) (f f' : ℕ) → EndsWith (code_for e) (value e) → AppendsPrefix w w' (value_line (value e))
-    → (fault ≡ results.WriteFault → Rises f f') → (fault ≡ results.Memory → Keeps w w') → RanSum e (stream w w' f f') (Err (stop_of_result fault))
-sum_not_written e results.WriteFault w w' f f' ends front rises kept = D.not_written ends (rises refl) front
-sum_not_written e results.Memory w w' f f' ends front rises kept = D.no_memory (kept refl)
+pub sum_not_written : (name : List ℕ) (e : Sum) (fault : ResultFault) (w w' : Option (List ℕ)) (f f' : ℕ) → AppendsPrefix w w' (value_line (value e))
+    → (fault ≡ results.WriteFault → Rises f f' × EndsWith (image_for name e) (value e)) → (fault ≡ results.Memory → Keeps w w')
+    → RanSum name e (stream w w' f f') (Err (stop_of_result fault))
+sum_not_written name e results.WriteFault w w' f f' front rises kept = let r = rises refl in D.not_written r.1 r.0 front
+sum_not_written name e results.Memory w w' f f' front rises kept = D.no_memory (kept refl)
 
 -- a line of its own for each stop
 pub plain : (stop s : Stop) (err : Stream) (status : ℕ) → stop ≡ s → (Reported s err status → Ended s err status) → Reported stop err status → Ended stop err status
@@ -145,7 +126,7 @@ run_stopped bytes m w f _ g (D.not_built p exported first) = refused_as _ (not_b
 run_stopped bytes m w f _ g D.memory_ran_out = O.no_memory (keeps_same w)
 
 -- a good module whose sum was run
-pub sum_did : {result : Result (Unit {0}) Stop} (bytes : List ℕ) (m : Module) (e : Sum) (out : Stream) → IsGoodText bytes m → IsSumModule (module_of m) e → RanSum e out result → DidText Run bytes out result
+pub sum_did : {result : Result (Unit {0}) Stop} (bytes : List ℕ) (m : Module) (e : Sum) (out : Stream) → IsGoodText bytes m → IsSumModule (module_of m) e → RanSum m.name e out result → DidText Run bytes out result
 sum_did bytes m e out g is (returned ends gained) = did (value_line (value e)) (sum m e g is ends) gained
 sum_did bytes m e out g is (D.not_written ends faulted front) = O.not_written (value_line (value e)) (sum m e g is ends) faulted front
 sum_did bytes m e out g is (D.no_memory untouched) = O.no_memory untouched

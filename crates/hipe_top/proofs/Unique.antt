@@ -1,4 +1,4 @@
--- Words and bytes have one answer.
+-- Words and bytes have one answer alone.
 use Rattle.std.proofs.Common.{◌≡◌, ℕ, ◌<◌, ◌≤◌, List, length, codes, refl, sym, ap, ◌∙◌, subst, arith}
 use Rattle.hipe_terms.specs.declared.place.Place.{Place}
 use Rattle.core_ast.specs.declared.tree.Module.{Module}
@@ -13,13 +13,13 @@ use Rattle.core_sum.specs.declared.sum.Sum.{Sum}
 use Rattle.core_sum.specs.Sums.{value}
 use Rattle.core_sum.specs.Form.{main, Exports, IsSumModule, IsFirstUnbuilt}
 use Rattle.core_sum.proofs.Unique.{one_sum, one_place, not_both}
-use Rattle.amd64_machine.specs.Result.{value_line}
+use Rattle.sum_run.specs.Run.{value_line}
 use Rattle.hipe_top.specs.declared.limits.TheConstants.{TEXT_LIMIT}
 use Rattle.hipe_top.specs.declared.stop.Reason.{Reason}
 use Rattle.hipe_top.specs.declared.stop.Stop.{Stop}
 use Rattle.hipe_top.specs.declared.words.Mode.{Mode}
 use Rattle.hipe_top.specs.declared.words.Mode.TheVariants.{Check, Run}
-use Rattle.hipe_top.specs.Answers.{Answer, refused, answered, not_yet, AnswerOf, too_long, not_read, not_good, good, not_exported, not_built, sum, bad_words, of_mode, HaveOneAnswer}
+use Rattle.hipe_top.specs.Answers.{Answer, refused, answered, not_yet, AnswerOf, too_long, not_read, not_good, good, not_exported, not_built, sum, Expected, bad_words, of_mode}
 use Rattle.hipe_top.specs.Stops.{stop_of_reading}
 use Rattle.hipe_top.specs.Texts.{IsGoodText, BeginsAt}
 use Rattle.hipe_top.proofs.Placing.{one_beginning}
@@ -104,7 +104,7 @@ module _ (bytes : List ℕ) where
   answers_agree _ _ b (not_built m p g exported first) x = unbuilt_one m p b g exported first x
   answers_agree _ _ b (sum m e g is ends) x = sum_one m e b g is x
 
-pub one : HaveOneAnswer
+pub one : (words : List (List ℕ)) (bytes : List ℕ) (a b : Answer) → Expected words bytes a → Expected words bytes b → a ≡ b
 one words bytes _ _ (bad_words bad) (bad_words bad2) = refl
 one words bytes _ b (bad_words bad) (of_mode mode is x) = absurd (bad (mode, is))
 one words bytes a _ (of_mode mode is x) (bad_words bad) = absurd (bad (mode, is))

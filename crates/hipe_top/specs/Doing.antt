@@ -10,19 +10,19 @@ use Rattle.core_reader.specs.Language.{Reads, ReadsNone, IsRefusedAs}
 use Rattle.core_sum.specs.declared.sum.Sum.{Sum}
 use Rattle.core_sum.specs.Sums.{value}
 use Rattle.core_sum.specs.Form.{main, Exports, IsFirstUnbuilt}
-use Rattle.amd64_machine.specs.Result.{value_line}
 use Rattle.hipe_top.specs.declared.stop.Reason.{Reason}
 use Rattle.hipe_top.specs.declared.stop.Stop.{Stop}
-use Rattle.hipe_top.specs.Code.{code_for, EndsWith}
+use Rattle.sum_code.specs.Code.{image_for, EndsWith}
+use Rattle.sum_run.specs.Run.{value_line}
 use Rattle.hipe_top.specs.Stops.{stop_of_reading}
-use Rattle.hipe_top.specs.Outcome.{Stream, Faulted, Untouched, Gained, GainedPrefix}
+use Rattle.hipe_edge.specs.Streams.{Stream, Faulted, Untouched, Gained, GainedPrefix}
 use Rattle.hipe_top.specs.Texts.{BeginsAt}
 
 -- what running a sum came to
-pub data RanSum (e : Sum) (out : Stream) : Result (Unit {0}) Stop → Type 0 where
-  returned : EndsWith (code_for e) (value e) → Gained out (value_line (value e)) → RanSum e out (Ok tt)
-  not_written : EndsWith (code_for e) (value e) → Faulted out → GainedPrefix out (value_line (value e)) → RanSum e out (Err Stop.WriteFault)
-  no_memory : Untouched out → RanSum e out (Err Stop.Memory)
+pub data RanSum (name : List ℕ) (e : Sum) (out : Stream) : Result (Unit {0}) Stop → Type 0 where
+  returned : EndsWith (image_for name e) (value e) → Gained out (value_line (value e)) → RanSum name e out (Ok tt)
+  not_written : EndsWith (image_for name e) (value e) → Faulted out → GainedPrefix out (value_line (value e)) → RanSum name e out (Err Stop.WriteFault)
+  no_memory : Untouched out → RanSum name e out (Err Stop.Memory)
 
 -- what writing `ok` came to
 pub data WroteOk (out : Stream) : Result (Unit {0}) Stop → Type 0 where

@@ -1,6 +1,5 @@
 -- What the program answers to its words and its input, and what the code of a sum is.
 pub mod Answers
-pub mod Code
 pub mod Outcome
 pub mod Stops
 pub mod Command

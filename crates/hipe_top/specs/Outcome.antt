@@ -1,9 +1,6 @@
--- What stands on the source and the sinks after each way in which the program ends. A source's bytes left and a
--- sink's bytes written are known where they tell them.
-use Rattle.std.specs.Prelude.{◌≡◌, ◌≢◌, ◌⊎◌, ◌↔◌, ℕ, ◌+◌, List, take, Option, Result, Ok, Err, IfSome}
-use Rattle.std.specs.Io.KnownBytes.{Appends, Keeps, Consumes}
-use Rattle.hipe_edge.specs.Bytes.{AppendsPrefix}
-use Rattle.hipe_edge.specs.Counts.{Rises}
+-- What stands on the source and the sinks after each way in which the program ends.
+use Rattle.std.specs.Prelude.{◌≡◌, ◌≢◌, ◌⊎◌, ◌↔◌, ℕ, List, Result, Ok, Err}
+use Rattle.hipe_edge.specs.Streams.{Stream, Faulted, Untouched, Gained, GainedPrefix, GainedUnlessFaulted, HadLeft, WasReadWithin}
 use Rattle.hipe_top.specs.declared.limits.TheConstants.{TEXT_LIMIT}
 use Rattle.hipe_top.specs.declared.stop.Stop.{Stop}
 use Rattle.hipe_top.specs.declared.words.Mode.{Mode}
@@ -12,41 +9,9 @@ use Rattle.hipe_top.specs.Stops.{status_of, status_unwritten, line_of}
 use Rattle.hipe_top.specs.Command.{IsCommand, words_of}
 use Rattle.hipe_top.specs.Texts.{Takes, Refuses}
 
--- a source or a sink before and after the call: its known bytes, and its count of faults
-pub record Stream : Type 0 where
-  pub before : Option (List ℕ)
-  pub after : Option (List ℕ)
-  pub faults_before : ℕ
-  pub faults_after : ℕ
-
-abbrev pub stream : Option (List ℕ) → Option (List ℕ) → ℕ → ℕ → Stream
-stream before after faults_before faults_after =
-    record { before = before; after = after; faults_before = faults_before; faults_after = faults_after }
-
-abbrev pub Faulted : Stream → Type 0
-Faulted stream = Rises stream.faults_before stream.faults_after
-
--- nothing was written
-abbrev pub Untouched : Stream → Type 0
-Untouched sink = Keeps sink.before sink.after
-
-abbrev pub Gained : Stream → List ℕ → Type 0
-Gained sink text = Appends sink.before sink.after text
-
-abbrev pub GainedPrefix : Stream → List ℕ → Type 0
-GainedPrefix sink text = AppendsPrefix sink.before sink.after text
-
--- the line was written, or a front of it and a write failed
-abbrev pub GainedUnlessFaulted : Stream → List ℕ → Type 0
-GainedUnlessFaulted sink line = Gained sink line ⊎ (Faulted sink × GainedPrefix sink line)
-
--- these are the bytes that the source had left, where it told them
-abbrev pub HadLeft : Stream → List ℕ → Type 0
-HadLeft source bytes = IfSome source.before (λ known. known ≡ bytes)
-
 -- the source was read to its end, or one byte past the limit
 abbrev pub WasRead : Stream → List ℕ → Type 0
-WasRead source bytes = Consumes source.before source.after (take (TEXT_LIMIT + 1) bytes)
+WasRead source bytes = WasReadWithin TEXT_LIMIT source bytes
 
 -- the line of a stop was written and the status is its own, or the line couldn't be written
 pub data Reported (stop : Stop) (err : Stream) (status : ℕ) : Type 0 where
@@ -85,7 +50,7 @@ pub record Answered (words : List (List ℕ)) (source out err : Stream) (status 
   pub on_out : Gained out answer.out
   pub on_err : Gained err answer.err
   pub was_read : IsCommand words → WasRead source bytes
-  pub left_unread : ¬ IsCommand words → Keeps source.before source.after
+  pub left_unread : ¬ IsCommand words → Untouched source
 
 -- want of memory
 pub record RanOutOfMemory (words : List (List ℕ)) (source out err : Stream) : Type 0 where

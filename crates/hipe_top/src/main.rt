@@ -1,18 +1,18 @@
 // The compiler's program.
 //
 // It takes on standard input the text of a module of Core Erlang. The word `check` tells whether the module is good. The words
-// `run` and `'main'()` take a good module whose function `'main'/0` gives a sum of integers: they make AMD64 code of the sum, run
-// the code on the machine of `amd64_machine`, and write the value.
+// `run` and `'main'()` take a good module whose function `'main'/0` gives a sum of integers: they make an image of AMD64 code of it,
+// load the image into the machine of `amd64_machine`, run it there, and write the value.
 //
-// Promised here, on the contract of `hipe_alone`, for any source and any sinks: status 0 exactly where the words are good, the
-// text is one that their mode takes, and no read, write or allocation failed; and then the mode's line stands on out, for `run`
-// that of the plain sum, which is the integer with which the machine's own definition ends on the bytes of `code_of`; and for each
-// other status what stands on the source and the sinks. `main` only lends it standard input, output and error.
+// Promised here, on the contract of `hipe_alone`, for any source and any sinks that tell their bytes: status 0 exactly where the
+// words are good, the text is one that their mode takes, and no read, write or allocation failed; and then the mode's line stands
+// on out, for `run` that of the plain sum, which is the integer with which the machine's own definition ends on the image; and for
+// each other status what stands on the source and the sinks. `main` only lends it standard input, output and error, which tell no
+// bytes: of them the contract says which status comes when, and that the answer fits some bytes.
 //
 // Files:
 //   limits.rt   the limits, with their reasons
 //   words.rt    the words and the modes that they name
-//   code.rt     `code_of`: the code of a sum, and its theorem
 //   place.rt    the place of a module in its text
 //   run.rt      from the source to the line on out
 //   stop.rt     why the program stops without it: status and line
@@ -20,7 +20,6 @@
 //   tests.rt    the program in memory
 #![tactic(auto)]
 
-mod code;
 mod limits;
 mod place;
 mod run;

@@ -4,36 +4,22 @@ ghost use Rattle.core_ast.specs.Trees.{module_of};
 ghost use Rattle.core_reader.specs.Language.{Reads};
 ghost use Rattle.core_sum.specs.Sums.{HasSmallIntegers, count_of};
 ghost use Rattle.core_sum.specs.Form.{IsSumModule};
-ghost use Rattle.hipe_top.specs.Outcome.{DidText, DidSource, stream};
-ghost use Rattle.hipe_top.specs.Doing.{RanSum, WroteOk, IsStop, IsRunStop};
+ghost use Rattle.hipe_edge.specs.Streams.{stream};
+ghost use Rattle.hipe_top.specs.Outcome.{DidText, DidSource};
+ghost use Rattle.hipe_top.specs.Doing.{WroteOk, IsStop, IsRunStop};
 
-use super::code::code_of;
-use super::limits::{STEPS, TEXT_LIMIT};
+use super::limits::TEXT_LIMIT;
 use super::place::module_place;
 use super::stop::{Reason, Stop};
 use super::words::Mode;
-use amd64_machine::Machine;
 use core_ast::GoodModule;
 use core_lint::lint;
 use core_reader::read_module;
 use core_sum::{MOST_INTEGERS, Sum, SumRefusal, sum_of};
 use hipe_edge::{Sink, Source, read_all, write_line};
 use std::alloc::Global;
-
-// Makes the code of a sum, runs it and writes the line of its value.
-fn run_sum<O: Sink>(alloc: Global, e: &Sum, steps: u64, out: &mut O) -> Result<(), Stop>
-    requires small { HasSmallIntegers e.now }
-    requires few { count_of e.now ≤ MOST_INTEGERS }
-    requires steps { STEPS ≤ steps }
-    ensures { RanSum e.now
-        (stream (O.written out.old) (O.written out.new) (O.faults out.old) (O.faults out.new)) result }
-{
-    let code = code_of(alloc, e)?;
-    let mut machine = Machine::start(alloc, code)?;
-    machine.run(steps, out);
-    machine.write_result(alloc, out)?;
-    Ok(())
-}
+use sum_code::limits::STEPS;
+use sum_run::run_sum;
 
 // The good module of a text.
 fn good_module(alloc: Global, text: &[u8]) -> Result<GoodModule, Stop>
@@ -93,7 +79,8 @@ fn run_module<O: Sink>(
         (stream (O.written out.old) (O.written out.new) (O.faults out.old) (O.faults out.new)) result }
 {
     let sum = module_sum(alloc, text, good)?;
-    run_sum(alloc, &sum, STEPS, out)
+    run_sum(alloc, &good.tree.name, &sum, STEPS, out)?;
+    Ok(())
 }
 
 // Does what the mode does with a text.

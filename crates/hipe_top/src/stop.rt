@@ -2,7 +2,8 @@
 ghost use Rattle.std.specs.Prelude.{◌≡◌, [], ◌∷◌, ◌++◌, codes, string_bytes, IfOk, OnOk};
 ghost use Rattle.std.specs.Fmt.{decimal};
 ghost use Rattle.hipe_top.specs.declared.stop.Stop.{Stop as AStop};
-ghost use Rattle.hipe_top.specs.Outcome.{Reported, Ended, stream};
+ghost use Rattle.hipe_edge.specs.Streams.{stream};
+ghost use Rattle.hipe_top.specs.Outcome.{Reported, Ended};
 ghost use Rattle.hipe_top.specs.Stops.{status_of, status_unwritten, name_of, rule_name, line_of, stop_of_source, stop_of_reading, stop_of_lint, stop_of_result};
 
 use amd64_machine::ResultFault;

@@ -1,7 +1,5 @@
 // The whole program in memory: worked texts, refusals, and calls that fail.
-use super::code::code_of;
 use super::top::hipe_alone;
-use core_sum::Sum;
 use hipe_edge::{CountSink, MemSink, MemSource, SureSource};
 use std::alloc::{AllocError, Global};
 use std::process::Abort;
@@ -47,7 +45,22 @@ fn assert_seen(rt: &impl Abort, seen: &Seen, status: u8, out: &str, err: &str) {
     assert_eq!(rt; seen.err.as_slice(), err.as_bytes());
 }
 
-// What `check` and `run` answer to a module with this body.
+// What `check` and `run` answer to this text.
+fn assert_text(
+    rt: &impl Abort,
+    alloc: Global,
+    text: &str,
+    checked: (u8, &str, &str),
+    ran: (u8, &str, &str),
+) -> Result<(), AllocError> {
+    let seen = call(alloc, &["check"], text, [&[], &[], &[]])?;
+    assert_seen(rt, &seen, checked.0, checked.1, checked.2);
+    let seen = call(alloc, &["run", "'main'()"], text, [&[], &[], &[]])?;
+    assert_seen(rt, &seen, ran.0, ran.1, ran.2);
+    Ok(())
+}
+
+// What they answer to a module with this body.
 fn assert_body(
     rt: &impl Abort,
     alloc: Global,
@@ -56,11 +69,7 @@ fn assert_body(
     ran: (u8, &str, &str),
 ) -> Result<(), AllocError> {
     let text = format!(in alloc; "{BEFORE}{body} end")?;
-    let seen = call(alloc, &["check"], text.as_str(), [&[], &[], &[]])?;
-    assert_seen(rt, &seen, checked.0, checked.1, checked.2);
-    let seen = call(alloc, &["run", "'main'()"], text.as_str(), [&[], &[], &[]])?;
-    assert_seen(rt, &seen, ran.0, ran.1, ran.2);
-    Ok(())
+    assert_text(rt, alloc, text.as_str(), checked, ran)
 }
 
 #[test]
@@ -100,8 +109,11 @@ fn bodies_are_refused(rt: HostRuntime) -> Result<(), Fail> {
         ("foo", "hipe: token 1:58\n"),
         ("576460752303423488", "hipe: wide_integer 1:58\n"),
         ("1.5", "hipe: not_in_profile 1:58\n"),
+        ("'f'/0", "hipe: unbound_function 1:58\n"),
         ("{X}", "hipe: unbound_variable 1:59\n"),
+        ("fun (X,X) -> X", "hipe: duplicate_variable 1:65\n"),
         ("<1,2>", "hipe: degree 1:58\n"),
+        ("primop 'x'()", "hipe: unknown_primop 1:58\n"),
     ] {
         assert_body(&rt, rt.alloc(), body, (3, "", line), (3, "", line))?;
     }
@@ -117,6 +129,10 @@ fn places_of_modules(rt: HostRuntime) -> Result<(), Fail> {
             "module 'm' [] attributes [] 'f'/0 = fun () -> 1 'f'/0 = fun () -> 2 end",
             "hipe: duplicate_function 1:49\n",
         ),
+    ] {
+        assert_text(&rt, alloc, text, (3, "", line), (3, "", line))?;
+    }
+    for (text, line) in [
         (
             "\n % a comment\n  ( module 'm' [] attributes [] 'f'/0 = fun () -> 1 end -| [] )",
             "hipe: not_yet 3:5\n",
@@ -130,8 +146,7 @@ fn places_of_modules(rt: HostRuntime) -> Result<(), Fail> {
             "hipe: not_yet 1:60\n",
         ),
     ] {
-        let seen = call(alloc, &["run", "'main'()"], text, [&[], &[], &[]])?;
-        assert_seen(&rt, &seen, 3, "", line);
+        assert_text(&rt, alloc, text, (0, "ok\n", ""), (3, "", line))?;
     }
     Ok(())
 }
@@ -171,7 +186,7 @@ fn words_and_inputs_are_refused(rt: HostRuntime) -> Result<(), Fail> {
 fn calls_that_fail_are_told(rt: HostRuntime) -> Result<(), Fail> {
     let alloc = rt.alloc();
     let none: &[u64] = &[];
-    let (good, bad) = ("42 end", "43");
+    let (good, bad) = ("42 end", "42");
     for (body, source, out, err, status, written, line) in [
         (
             good,
@@ -203,14 +218,17 @@ fn calls_that_fail_are_told(rt: HostRuntime) -> Result<(), Fail> {
     Ok(())
 }
 
-// mov rax, 687; mov rdi, rax; mov rax, 0; syscall
 #[test]
-#[tactic(auto, using(crate::proofs::Levels::levels))]
-fn an_integer_has_this_code(rt: HostRuntime) -> Result<(), Fail> {
-    let code = code_of(rt.alloc(), &Sum::Int(42))?;
-    assert_eq!(rt;
-        code.as_slice(),
-        b"\x48\xb8\xaf\x02\0\0\0\0\0\0\x48\x89\xc7\x48\xb8\0\0\0\0\0\0\0\0\x0f\x05".as_slice()
-    );
+fn checks_that_fail_are_told(rt: HostRuntime) -> Result<(), Fail> {
+    let alloc = rt.alloc();
+    let none: &[u64] = &[];
+    let text = format!(in alloc; "{BEFORE}42 end")?;
+    for (source, out, status, line) in [
+        ([1].as_slice(), none, 6, "hipe: read_fault\n"),
+        (none, &[1], 7, "hipe: write_fault\n"),
+    ] {
+        let seen = call(alloc, &["check"], text.as_str(), [source, out, none])?;
+        assert_seen(&rt, &seen, status, "", line);
+    }
     Ok(())
 }

@@ -2,7 +2,8 @@
 ghost use Rattle.std.specs.Prelude.{◌≡◌, IfSome, map};
 ghost use Rattle.std.specs.String.{string_bytes};
 ghost use Rattle.hipe_top.specs.Answers.{HaveOneAnswer};
-ghost use Rattle.hipe_top.specs.Outcome.{EndedByItself, Answered, RanOutOfMemory, ReadFailed, WriteFailed, Accepts, stream};
+ghost use Rattle.hipe_edge.specs.Streams.{stream};
+ghost use Rattle.hipe_top.specs.Outcome.{EndedByItself, Answered, RanOutOfMemory, ReadFailed, WriteFailed, Accepts};
 
 use super::run::answer_source;
 use super::stop::{Stop, report};
@@ -10,8 +11,8 @@ use super::words::mode_of;
 use hipe_edge::{Sink, Source};
 use std::alloc::Global;
 
-/// The words and the bytes of an input have one answer. So what stands on out after status 0 is the one line that the
-/// definitions give.
+/// The words and the bytes of an input have an answer, and one alone. So what stands on out after status 0 is the one line that
+/// the definitions give.
 pub fn one_answer()
     ensures { HaveOneAnswer }
 {}

@@ -5,9 +5,9 @@ use Rattle.amd64_machine.specs.Machine.{unary, quotient_put, word_in}
 use Rattle.amd64_machine.specs.Seen.{registers_seen}
 use Rattle.amd64_machine.proofs.perform.unary.Goals as goal
 
-pub returns-in-Idiv : goal.returns-in-Idiv
-returns-in-Idiv c =
+pub returns-in-Idiv-clause-step : goal.returns-in-Idiv-clause-step
+returns-in-Idiv-clause-step c =
     let core = c.args.core.now in
     let registers = registers_seen core.registers in
-    c.divide.ensures ∙ ap (λ w. quotient_put core.at c.args.next registers core.stack.items (divided (double (word_in registers Rdx) (word_in registers Rax)) (signed w))) c.get-word.ensures
-    ∙ ap (λ o. unary core.at c.args.next o c.args.of registers core.flags core.stack.items) (sym c.in-Idiv.is)
+    c.divide.ensures.step ∙ ap (λ w. quotient_put c.args.next registers core.region (divided (double (word_in registers Rdx) (word_in registers Rax)) (signed w))) c.get-word.ensures
+    ∙ ap (λ o. unary c.args.next o c.args.of registers core.flags core.region) (sym c.in-Idiv.is)

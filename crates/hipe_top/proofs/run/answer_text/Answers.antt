@@ -1,6 +1,7 @@
 use Rattle.std.proofs.Common.{subst, sym}
 use Rattle.std.proofs.lemmas.Result.{err_from_is_err_and}
-use Rattle.hipe_top.specs.Outcome.{DidText, stream}
+use Rattle.hipe_edge.specs.Streams.{stream}
+use Rattle.hipe_top.specs.Outcome.{DidText}
 use Rattle.hipe_top.proofs.Running.{stopped, check_did}
 use Rattle.hipe_top.proofs.run.answer_text.Goals as goal
 

@@ -1,0 +1,193 @@
+-- What a service did, from what the code answers of it.
+use Rattle.std.proofs.Common.{◌≡◌, ℕ, ◌+◌, ◌*◌, List, ◌∷◌, length, map, Option, Some, None, true, false, refl, ap}
+use Rattle.std.specs.Prelude.{Bool, nat_eq, nat_le, string_bytes, if◌then◌else◌}
+use Rattle.std.specs.declared.cmp.Ordering.{Ordering}
+use Rattle.std.specs.declared.cmp.Ordering.TheVariants.{Less, Equal, Greater}
+use Rattle.std.specs.Global.{Global}
+use Rattle.std.specs.declared.string.String.{String}
+use Rattle.hipe_terms.specs.Terms.{Term}
+use Rattle.hipe_terms.specs.Shown.{Names}
+use Rattle.hipe_terms.specs.Outcome.{Class}
+use Rattle.heap_terms.specs.Shapes.{Symbols, Reference, Shape, Integer, Atom, Nil, Cons, Tuple, Fun, shape_at, from_outside}
+use Rattle.heap_terms.specs.Terms.{term_at}
+use Rattle.machine_services.specs.declared.services.Class.{Class as ClassCode}
+use Rattle.machine_services.specs.declared.services.Served.TheVariants as served
+use Rattle.machine_services.specs.Comparing.{compared}
+use Rattle.machine_services.specs.Lists.{Spine, NoTerm, Improper, Proper, spine_at, cells_from}
+use Rattle.machine_services.specs.Services.{Service, NoNext, Ends, Answers, Displays, Builds, Returned, Raised, HeapFull, StackFull, returned, raised, class_of, displayed, equality, order_word, length_word, free_index, placed, appended, copied, service, heap_with}
+use Rattle.machine_services.specs.Served.{IsServed, class_seen, line_of}
+
+-- there is no next state
+pub no_next : (names : Names) (heap : List ℕ) (free : ℕ) (v : Service) (new : List ℕ) → IsServed names heap free v served.NoNext new
+    → (v ≡ NoNext) × (new ≡ heap)
+no_next names heap free NoNext new e = (refl, e.1)
+no_next names heap free (Ends (Returned t)) new e = let h = e.0 in absurd (cc)
+no_next names heap free (Ends (Raised class t)) new e = let h = e.0 in absurd (cc)
+no_next names heap free (Ends HeapFull) new e = let h = e.0 in absurd (cc)
+no_next names heap free (Ends StackFull) new e = let h = e.0 in absurd (cc)
+no_next names heap free (Answers word) new e = let h = e.0 in absurd (cc)
+no_next names heap free (Displays t) new e = absurd e.0
+no_next names heap free (Builds word words) new e = let h = e.0 in absurd (cc)
+
+-- it returned
+pub has_returned : (names : Names) (heap : List ℕ) (free : ℕ) (v : Service) (new : List ℕ) → IsServed names heap free v served.Returned new
+    → (t : Term) × (v ≡ Ends (Returned t)) × (new ≡ heap)
+has_returned names heap free NoNext new e = let h = e.0 in absurd (cc)
+has_returned names heap free (Ends (Returned t)) new e = (t, refl, e.1)
+has_returned names heap free (Ends (Raised class t)) new e = let h = e.0 in absurd (cc)
+has_returned names heap free (Ends HeapFull) new e = let h = e.0 in absurd (cc)
+has_returned names heap free (Ends StackFull) new e = let h = e.0 in absurd (cc)
+has_returned names heap free (Answers word) new e = let h = e.0 in absurd (cc)
+has_returned names heap free (Displays t) new e = absurd e.0
+has_returned names heap free (Builds word words) new e = let h = e.0 in absurd (cc)
+
+-- it raised
+pub has_raised : (names : Names) (heap : List ℕ) (free : ℕ) (v : Service) (code : ClassCode) (new : List ℕ) → IsServed names heap free v (served.Raised code) new
+    → (class : Class) × (t : Term) × (v ≡ Ends (Raised class t)) × (class_seen class ≡ code) × (new ≡ heap)
+has_raised names heap free NoNext code new e = let h = e.0 in absurd (cc)
+has_raised names heap free (Ends (Returned t)) code new e = let h = e.0 in absurd (cc)
+has_raised names heap free (Ends (Raised class t)) code new e = let same : class_seen class ≡ code = let h = e.0 in cc in (class, t, refl, same, e.1)
+has_raised names heap free (Ends HeapFull) code new e = let h = e.0 in absurd (cc)
+has_raised names heap free (Ends StackFull) code new e = let h = e.0 in absurd (cc)
+has_raised names heap free (Answers word) code new e = let h = e.0 in absurd (cc)
+has_raised names heap free (Displays t) code new e = absurd e.0
+has_raised names heap free (Builds word words) code new e = let h = e.0 in absurd (cc)
+
+-- the heap is full
+pub is_heap_full : (names : Names) (heap : List ℕ) (free : ℕ) (v : Service) (new : List ℕ) → IsServed names heap free v served.HeapFull new
+    → (v ≡ Ends HeapFull) × (new ≡ heap)
+is_heap_full names heap free NoNext new e = let h = e.0 in absurd (cc)
+is_heap_full names heap free (Ends (Returned t)) new e = let h = e.0 in absurd (cc)
+is_heap_full names heap free (Ends (Raised class t)) new e = let h = e.0 in absurd (cc)
+is_heap_full names heap free (Ends HeapFull) new e = (refl, e.1)
+is_heap_full names heap free (Ends StackFull) new e = let h = e.0 in absurd (cc)
+is_heap_full names heap free (Answers word) new e = let h = e.0 in absurd (cc)
+is_heap_full names heap free (Displays t) new e = absurd e.0
+is_heap_full names heap free (Builds word words) new e = let h = e.0 in absurd (cc)
+
+-- the stack is full
+pub is_stack_full : (names : Names) (heap : List ℕ) (free : ℕ) (v : Service) (new : List ℕ) → IsServed names heap free v served.StackFull new
+    → (v ≡ Ends StackFull) × (new ≡ heap)
+is_stack_full names heap free NoNext new e = let h = e.0 in absurd (cc)
+is_stack_full names heap free (Ends (Returned t)) new e = let h = e.0 in absurd (cc)
+is_stack_full names heap free (Ends (Raised class t)) new e = let h = e.0 in absurd (cc)
+is_stack_full names heap free (Ends HeapFull) new e = let h = e.0 in absurd (cc)
+is_stack_full names heap free (Ends StackFull) new e = (refl, e.1)
+is_stack_full names heap free (Answers word) new e = let h = e.0 in absurd (cc)
+is_stack_full names heap free (Displays t) new e = absurd e.0
+is_stack_full names heap free (Builds word words) new e = let h = e.0 in absurd (cc)
+
+-- it answered
+pub has_answered : (names : Names) (heap : List ℕ) (free : ℕ) (v : Service) (result : ℕ) (new : List ℕ) → IsServed names heap free v (served.Answered result) new
+    → (v ≡ Answers result) × (new ≡ heap)
+has_answered names heap free NoNext result new e = let h = e.0 in absurd (cc)
+has_answered names heap free (Ends (Returned t)) result new e = let h = e.0 in absurd (cc)
+has_answered names heap free (Ends (Raised class t)) result new e = let h = e.0 in absurd (cc)
+has_answered names heap free (Ends HeapFull) result new e = let h = e.0 in absurd (cc)
+has_answered names heap free (Ends StackFull) result new e = let h = e.0 in absurd (cc)
+has_answered names heap free (Answers word) result new e = let same : word ≡ result = let h = e.0 in cc in (ap Answers same, e.1)
+has_answered names heap free (Displays t) result new e = absurd e.0
+has_answered names heap free (Builds word words) result new e = let h = e.0 in absurd (cc)
+
+-- it built words
+pub has_built : (names : Names) (heap : List ℕ) (free : ℕ) (v : Service) (result : ℕ) (count : ℕ) (new : List ℕ) → IsServed names heap free v (served.Built result count) new
+    → (words : List ℕ) × (v ≡ Builds result words) × (count ≡ length words) × (new ≡ heap_with heap free words)
+has_built names heap free NoNext result count new e = let h = e.0 in absurd (cc)
+has_built names heap free (Ends (Returned t)) result count new e = let h = e.0 in absurd (cc)
+has_built names heap free (Ends (Raised class t)) result count new e = let h = e.0 in absurd (cc)
+has_built names heap free (Ends HeapFull) result count new e = let h = e.0 in absurd (cc)
+has_built names heap free (Ends StackFull) result count new e = let h = e.0 in absurd (cc)
+has_built names heap free (Answers word) result count new e = let h = e.0 in absurd (cc)
+has_built names heap free (Displays t) result count new e = absurd e.0
+has_built names heap free (Builds word words) result count new e = let same : word ≡ result = let h = e.0 in cc in let many : count ≡ length words = let h = e.0 in cc in (words, ap (λ w. Builds w words) same, many, e.1)
+
+-- it displays
+pub has_displayed : (names : Names) (heap : List ℕ) (free : ℕ) (v : Service) (text : String Global) (new : List ℕ) → IsServed names heap free v (served.Displayed text) new
+    → (t : Term) × (v ≡ Displays t) × (string_bytes text ≡ line_of names t) × (new ≡ heap)
+has_displayed names heap free NoNext text new e = let h = e.0 in absurd (cc)
+has_displayed names heap free (Ends (Returned t)) text new e = let h = e.0 in absurd (cc)
+has_displayed names heap free (Ends (Raised class t)) text new e = let h = e.0 in absurd (cc)
+has_displayed names heap free (Ends HeapFull) text new e = let h = e.0 in absurd (cc)
+has_displayed names heap free (Ends StackFull) text new e = let h = e.0 in absurd (cc)
+has_displayed names heap free (Answers word) text new e = let h = e.0 in absurd (cc)
+has_displayed names heap free (Displays t) text new e = (t, refl, e.0, e.1)
+has_displayed names heap free (Builds word words) text new e = let h = e.0 in absurd (cc)
+
+-- ---- a service that ends with a term ends with that of rdi
+
+abbrev pub EndsWith : Option Term → Service → Type 0
+EndsWith o (Ends (Returned t)) = o ≡ Some t
+EndsWith o (Ends (Raised class t)) = o ≡ Some t
+EndsWith o v = Unit {0}
+
+if_ends : (o : Option Term) (b : Bool) (x y : Service) → EndsWith o x → EndsWith o y → EndsWith o (if b then x else y)
+if_ends o true x y p q = p
+if_ends o false x y p q = q
+
+returned_ends : (o : Option Term) → EndsWith o (returned o)
+returned_ends None = tt
+returned_ends (Some t) = refl
+
+raised_ends : (o : Option Term) (class : Option Class) → EndsWith o (raised class o)
+raised_ends o None = tt
+raised_ends None (Some class) = tt
+raised_ends (Some t) (Some class) = refl
+
+displayed_ends : (o p : Option Term) → EndsWith o (displayed p)
+displayed_ends o None = tt
+displayed_ends o (Some t) = tt
+
+equality_ends : (o : Option Term) (order : Option Ordering) → EndsWith o (equality order)
+equality_ends o None = tt
+equality_ends o (Some Less) = tt
+equality_ends o (Some Equal) = tt
+equality_ends o (Some Greater) = tt
+
+order_ends : (o : Option Term) (order : Option Ordering) → EndsWith o (order_word order)
+order_ends o None = tt
+order_ends o (Some Less) = tt
+order_ends o (Some Equal) = tt
+order_ends o (Some Greater) = tt
+
+length_ends : (o : Option Term) (spine : Spine) → EndsWith o (length_word spine)
+length_ends o NoTerm = tt
+length_ends o Improper = tt
+length_ends o (Proper ws) = tt
+
+placed_ends : (o : Option Term) (heap : List ℕ) (at : Option ℕ) (result : ℕ) (words : List ℕ) → EndsWith o (placed heap at result words)
+placed_ends o heap None result words = tt
+placed_ends o heap (Some i) result words = if_ends o (nat_le (i + length words) (length heap)) (Builds result words) (Ends HeapFull) tt tt
+
+appended_ends : (o : Option Term) (heap : List ℕ) (free : ℕ) (spine : Spine) (tail : ℕ) → EndsWith o (appended heap free spine tail)
+appended_ends o heap free NoTerm tail = tt
+appended_ends o heap free Improper tail = tt
+appended_ends o heap free (Proper ws) tail =
+    placed_ends o heap (free_index heap free) (cells_from free ws tail).0 (cells_from free ws tail).1
+
+copied_ends : (o : Option Term) (heap : List ℕ) (free : ℕ) (shape : Option (Shape Reference)) → EndsWith o (copied heap free shape)
+copied_ends o heap free None = tt
+copied_ends o heap free (Some (Integer n)) = tt
+copied_ends o heap free (Some (Atom a)) = tt
+copied_ends o heap free (Some Nil) = tt
+copied_ends o heap free (Some (Cons a b)) = tt
+copied_ends o heap free (Some (Fun f ts)) = tt
+copied_ends o heap free (Some (Tuple ts)) =
+    placed_ends o heap (free_index heap free) (free + 2) ((64 * length ts) ∷ map (λ e. e.word) ts)
+
+pub service_ends : (symbols : Symbols) (heap : List ℕ) (number first second free : ℕ)
+    → EndsWith (term_at symbols heap first) (service symbols heap number first second free)
+unfolding service
+service_ends symbols heap number first second free =
+    let o = term_at symbols heap first in
+    let order = compared symbols heap first second in
+    let spine = spine_at symbols heap first in
+    let nine = if_ends o (nat_eq number 9) _ NoNext (copied_ends o heap free (shape_at symbols heap (from_outside heap first))) tt in
+    let eight = if_ends o (nat_eq number 8) _ _ (appended_ends o heap free spine second) nine in
+    let seven = if_ends o (nat_eq number 7) _ _ (length_ends o spine) eight in
+    let six = if_ends o (nat_eq number 6) _ _ (order_ends o order) seven in
+    let five = if_ends o (nat_eq number 5) _ _ (equality_ends o order) six in
+    let four = if_ends o (nat_eq number 4) _ _ (displayed_ends o o) five in
+    let three = if_ends o (nat_eq number 3) (Ends StackFull) _ tt four in
+    let two = if_ends o (nat_eq number 2) (Ends HeapFull) _ tt three in
+    let one = if_ends o (nat_eq number 1) _ _ (raised_ends o (class_of second)) two in
+    if_ends o (nat_eq number 0) _ _ (returned_ends o) one

@@ -1,0 +1,2 @@
+-- What contracts say of the code of sums.
+pub mod Code

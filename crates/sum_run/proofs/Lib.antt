@@ -1,0 +1,2 @@
+-- Lemmas on running a sum.
+pub mod Running

@@ -1,0 +1,2 @@
+-- What contracts say of running a sum.
+pub mod Run
