@@ -4,7 +4,7 @@ ghost use Rattle.std.specs.Prelude.{IfOk};
 ghost use Rattle.core_ast.specs.Trees.{module_of};
 ghost use Rattle.core_ast.specs.WellFormed.{IsWellFormed};
 
-use crate::shown::{show_call, show_module, without_places};
+use crate::shown::{show_call, show_module};
 use core_ast::Module;
 use core_print::print_module;
 use core_reader::{CallRefusal, ReadRefusal, read_call, read_module};
@@ -45,10 +45,10 @@ fn read(alloc: Global, text: &[u8]) -> Result<Module, ReadRefusal>
     read_module(alloc, text)
 }
 
-/// The module of a text.
+/// The module of a text, with its places.
 pub(crate) fn module(alloc: Global, text: &str) -> Answer {
     match read(alloc, text.as_bytes()) {
-        Ok(m) => show_module(alloc, &m),
+        Ok(m) => show_module(alloc, &m, true),
         Err(why) => refusal(alloc, why),
     }
 }
@@ -199,8 +199,8 @@ fn same_again(alloc: Global, m: &Module) -> Answer
         Ok(second) => second,
         Err(why) => return refusal(alloc, why),
     };
-    let first = without_places(alloc, show_module(alloc, m)?.as_str())?;
-    let second = without_places(alloc, show_module(alloc, &second)?.as_str())?;
+    let first = show_module(alloc, m, false)?;
+    let second = show_module(alloc, &second, false)?;
     if first.as_str() == second.as_str() {
         format!(in alloc; "{first}\nthe same when printed and read again")
     } else {

@@ -9,6 +9,7 @@
 //   after TEXT             the tokens that may come after a text, and those that aren't in the profile there
 //   nested N;A;B;C;D;E     whether the module with this body is read: A, N times B, C, N times D, E
 //   line TEXT              a line of a long text
+//   places                 the module of the lines so far, as a tree with places, or its refusal
 //   read                   the module of the lines so far, and whether it is the same when it is printed and read again
 //   print                  the module of the lines so far, printed
 //
@@ -20,12 +21,20 @@ mod shown;
 
 use answer::{after, again, body, call, clause, module, nested, printed};
 use std::alloc::Global;
+use std::mem;
 
 // What is kept between lines.
 #[derive(Drop)]
 struct Kept {
     alphabet: String,
     text: String,
+}
+
+impl Kept {
+    // The lines so far, which then begin anew.
+    fn take(&mut self, alloc: Global) -> String {
+        mem::replace(&mut self.text, String::new(alloc))
+    }
 }
 
 // The answer to a line, where it has one.
@@ -50,16 +59,9 @@ fn answered(alloc: Global, kept: &mut Kept, line: &str) -> anyhow::Result<Option
             kept.text.push_str("\n")?;
             Ok(None)
         }
-        "read" => {
-            let answer = again(alloc, kept.text.as_str())?;
-            kept.text = String::new(alloc);
-            Ok(Some(answer))
-        }
-        "print" => {
-            let answer = printed(alloc, kept.text.as_str())?;
-            kept.text = String::new(alloc);
-            Ok(Some(answer))
-        }
+        "places" => Ok(Some(module(alloc, kept.take(alloc).as_str())?)),
+        "read" => Ok(Some(again(alloc, kept.take(alloc).as_str())?)),
+        "print" => Ok(Some(printed(alloc, kept.take(alloc).as_str())?)),
         _ => Ok(Some(String::from_str(alloc, "no command")?)),
     }
 }

@@ -1,328 +1,318 @@
-// Trees as texts, with their places: a part is followed by `@`, its line, `:` and its column.
+// Trees as texts. Where places are asked for, a part is followed by `@`, its line, `:` and its column.
 
 use core_ast::{Clause, Expr, Fun, FunDef, FunName, Module, Node, PatNode, Pattern, Var};
-use hipe_terms::{Call, Constant, Place};
+use hipe_terms::{Atom, Call, Constant, Place};
 use std::alloc::{AllocError, Global};
 
 type Shown = Result<(), AllocError>;
 
-fn number(alloc: Global, n: i64, text: &mut String) -> Shown {
-    let digits = format!(in alloc; "{n}")?;
-    text.push_str(digits.as_str())
+// What is shown so far, and whether it has places.
+#[derive(Drop)]
+struct Tree {
+    alloc: Global,
+    with_places: bool,
+    text: String,
 }
 
-fn place(alloc: Global, at: Place, text: &mut String) -> Shown {
-    let line = at.line;
-    let col = at.col;
-    let place = format!(in alloc; "@{line}:{col}")?;
-    text.push_str(place.as_str())
-}
-
-fn atom(name: &str, text: &mut String) -> Shown {
-    text.push_str("'")?;
-    text.push_str(name)?;
-    text.push_str("'")
-}
-
-fn name(alloc: Global, f: &FunName, text: &mut String) -> Shown {
-    atom(f.name.as_str(), text)?;
-    let arity = f.arity;
-    let arity = format!(in alloc; "/{arity}")?;
-    text.push_str(arity.as_str())
-}
-
-fn variable(alloc: Global, x: &Var, text: &mut String) -> Shown {
-    text.push_str(x.name.as_str())?;
-    place(alloc, x.at, text)
-}
-
-fn variables(alloc: Global, list: &[Var], text: &mut String) -> Shown {
-    text.push_str("<")?;
-    for x in list {
-        variable(alloc, x, text)?;
-        text.push_str(";")?;
+impl Tree {
+    fn new(alloc: Global, with_places: bool) -> Tree {
+        Tree {
+            alloc,
+            with_places,
+            text: String::new(alloc),
+        }
     }
-    text.push_str(">")
+
+    fn push(&mut self, part: &str) -> Shown {
+        self.text.push_str(part)
+    }
+
+    fn number(&mut self, n: i64) -> Shown {
+        let digits = format!(in self.alloc; "{n}")?;
+        self.push(digits.as_str())
+    }
+
+    fn place(&mut self, at: Place) -> Shown {
+        if !self.with_places {
+            return Ok(());
+        }
+        let line = at.line;
+        let col = at.col;
+        let place = format!(in self.alloc; "@{line}:{col}")?;
+        self.push(place.as_str())
+    }
+
+    fn atom(&mut self, name: &str) -> Shown {
+        self.push("'")?;
+        self.push(name)?;
+        self.push("'")
+    }
+
+    fn name(&mut self, f: &FunName) -> Shown {
+        self.atom(f.name.as_str())?;
+        let arity = f.arity;
+        let arity = format!(in self.alloc; "/{arity}")?;
+        self.push(arity.as_str())
+    }
+
+    fn variable(&mut self, x: &Var) -> Shown {
+        self.push(x.name.as_str())?;
+        self.place(x.at)
+    }
+
+    fn variables(&mut self, list: &[Var]) -> Shown {
+        self.push("<")?;
+        for x in list {
+            self.variable(x)?;
+            self.push(";")?;
+        }
+        self.push(">")
+    }
 }
 
 #[cycle(constant)]
 #[tactic(auto, using(hipe_terms::proofs::Levels::term_levels))]
-fn constant(alloc: Global, c: &Constant, text: &mut String) -> Shown {
+fn constant(tree: &mut Tree, c: &Constant) -> Shown {
     match c {
-        Constant::Int(n) => number(alloc, *n, text),
-        Constant::Atom(a) => atom(a.as_str(), text),
-        Constant::Nil => text.push_str("[]"),
+        Constant::Int(n) => tree.number(*n),
+        Constant::Atom(a) => tree.atom(a.as_str()),
+        Constant::Nil => tree.push("[]"),
         Constant::List(parts, tail) => {
-            text.push_str("[")?;
-            constants(alloc, parts.as_slice(), text)?;
-            text.push_str("|")?;
-            constant(alloc, tail.get(), text)?;
-            text.push_str("]")
+            constants(tree, "[", parts.as_slice(), "|")?;
+            constant(tree, tail.get())?;
+            tree.push("]")
         }
-        Constant::Tuple(parts) => {
-            text.push_str("{")?;
-            constants(alloc, parts.as_slice(), text)?;
-            text.push_str("}")
-        }
+        Constant::Tuple(parts) => constants(tree, "{", parts.as_slice(), "}"),
     }
 }
 
 #[cycle(constant)]
 #[tactic(auto, using(hipe_terms::proofs::Levels::term_levels))]
-fn constants(alloc: Global, parts: &[Constant], text: &mut String) -> Shown {
+fn constants(tree: &mut Tree, before: &str, parts: &[Constant], behind: &str) -> Shown {
+    tree.push(before)?;
     for part in parts {
-        constant(alloc, part, text)?;
-        text.push_str(";")?;
+        constant(tree, part)?;
+        tree.push(";")?;
     }
-    Ok(())
+    tree.push(behind)
 }
 
 #[cycle(pattern)]
 #[tactic(auto, using(core_ast::proofs::Levels::pattern_levels))]
-fn pattern(alloc: Global, f: &Pattern, text: &mut String) -> Shown {
-    pattern_node(alloc, &f.node, text)?;
-    place(alloc, f.at, text)
+fn pattern(tree: &mut Tree, f: &Pattern) -> Shown {
+    pattern_node(tree, &f.node)?;
+    tree.place(f.at)
 }
 
 #[cycle(pattern)]
 #[tactic(auto, using(core_ast::proofs::Levels::pattern_levels))]
-fn pattern_node(alloc: Global, node: &PatNode, text: &mut String) -> Shown {
+fn pattern_node(tree: &mut Tree, node: &PatNode) -> Shown {
     match node {
-        PatNode::Var(x) => text.push_str(x.as_str()),
-        PatNode::Int(n) => number(alloc, *n, text),
-        PatNode::Atom(a) => atom(a.as_str(), text),
-        PatNode::Nil => text.push_str("[]"),
-        PatNode::Tuple(parts) => {
-            text.push_str("{")?;
-            patterns(alloc, parts.as_slice(), text)?;
-            text.push_str("}")
-        }
+        PatNode::Var(x) => tree.push(x.as_str()),
+        PatNode::Int(n) => tree.number(*n),
+        PatNode::Atom(a) => tree.atom(a.as_str()),
+        PatNode::Nil => tree.push("[]"),
+        PatNode::Tuple(parts) => patterns(tree, "{", parts.as_slice(), "}"),
         PatNode::List(parts, tail) => {
-            text.push_str("[")?;
-            patterns(alloc, parts.as_slice(), text)?;
-            text.push_str("|")?;
-            pattern(alloc, tail.get(), text)?;
-            text.push_str("]")
+            patterns(tree, "[", parts.as_slice(), "|")?;
+            pattern(tree, tail.get())?;
+            tree.push("]")
         }
         PatNode::Alias(x, part) => {
-            variable(alloc, x, text)?;
-            text.push_str("=")?;
-            pattern(alloc, part.get(), text)
+            tree.variable(x)?;
+            tree.push("=")?;
+            pattern(tree, part.get())
         }
     }
 }
 
 #[cycle(pattern)]
 #[tactic(auto, using(core_ast::proofs::Levels::pattern_levels))]
-fn patterns(alloc: Global, parts: &[Pattern], text: &mut String) -> Shown {
+fn patterns(tree: &mut Tree, before: &str, parts: &[Pattern], behind: &str) -> Shown {
+    tree.push(before)?;
     for part in parts {
-        pattern(alloc, part, text)?;
-        text.push_str(";")?;
+        pattern(tree, part)?;
+        tree.push(";")?;
     }
-    Ok(())
+    tree.push(behind)
 }
 
 #[cycle(expression)]
 #[tactic(auto, using(core_ast::proofs::Levels::levels))]
-fn expression(alloc: Global, e: &Expr, text: &mut String) -> Shown {
-    node(alloc, &e.node, text)?;
-    place(alloc, e.at, text)
+fn expression(tree: &mut Tree, e: &Expr) -> Shown {
+    node(tree, &e.node)?;
+    tree.place(e.at)
 }
 
 #[cycle(expression)]
 #[tactic(auto, using(core_ast::proofs::Levels::levels))]
-fn node(alloc: Global, n: &Node, text: &mut String) -> Shown {
+fn node(tree: &mut Tree, n: &Node) -> Shown {
     match n {
-        Node::Int(n) => number(alloc, *n, text),
-        Node::Atom(a) => atom(a.as_str(), text),
-        Node::Nil => text.push_str("[]"),
-        Node::Var(x) => text.push_str(x.as_str()),
-        Node::Name(f) => name(alloc, f, text),
-        Node::Tuple(parts) => {
-            text.push_str("{")?;
-            expressions(alloc, parts.as_slice(), text)?;
-            text.push_str("}")
-        }
+        Node::Int(n) => tree.number(*n),
+        Node::Atom(a) => tree.atom(a.as_str()),
+        Node::Nil => tree.push("[]"),
+        Node::Var(x) => tree.push(x.as_str()),
+        Node::Name(f) => tree.name(f),
+        Node::Tuple(parts) => expressions(tree, "{", parts.as_slice(), "}"),
         Node::List(parts, tail) => {
-            text.push_str("[")?;
-            expressions(alloc, parts.as_slice(), text)?;
-            text.push_str("|")?;
-            expression(alloc, tail.get(), text)?;
-            text.push_str("]")
+            expressions(tree, "[", parts.as_slice(), "|")?;
+            part(tree, "", tail.get())?;
+            tree.push("]")
         }
-        Node::Values(parts) => {
-            text.push_str("<")?;
-            expressions(alloc, parts.as_slice(), text)?;
-            text.push_str(">")
+        Node::Values(parts) => expressions(tree, "<", parts.as_slice(), ">"),
+        Node::Let(xs, values, body) => {
+            branch(tree, "let ", xs.as_slice(), values.get())?;
+            part(tree, " in ", body.get())
         }
-        Node::Let(xs, value, body) => {
-            text.push_str("let ")?;
-            variables(alloc, xs.as_slice(), text)?;
-            expression(alloc, value.get(), text)?;
-            text.push_str(" in ")?;
-            expression(alloc, body.get(), text)
+        Node::Case(values, list) => {
+            part(tree, "case ", values.get())?;
+            clauses(tree, list.as_slice())
         }
-        Node::Case(subject, list) => {
-            text.push_str("case ")?;
-            expression(alloc, subject.get(), text)?;
-            clauses(alloc, list.as_slice(), text)
-        }
-        Node::Lambda(f) => fun(alloc, f, text),
+        Node::Lambda(f) => fun(tree, f),
         Node::Letrec(defs, body) => {
-            text.push_str("letrec ")?;
-            definitions(alloc, defs.as_slice(), text)?;
-            text.push_str("in ")?;
-            expression(alloc, body.get(), text)
+            tree.push("letrec ")?;
+            definitions(tree, defs.as_slice())?;
+            part(tree, "in ", body.get())
         }
         Node::Apply(f, args) => {
-            text.push_str("apply ")?;
-            expression(alloc, f.get(), text)?;
-            text.push_str("(")?;
-            expressions(alloc, args.as_slice(), text)?;
-            text.push_str(")")
+            part(tree, "apply ", f.get())?;
+            expressions(tree, "(", args.as_slice(), ")")
         }
-        Node::Call(module, f, args) => {
-            text.push_str("call ")?;
-            atom(module.as_str(), text)?;
-            atom(f.as_str(), text)?;
-            text.push_str("(")?;
-            expressions(alloc, args.as_slice(), text)?;
-            text.push_str(")")
-        }
-        Node::Primop(f, args) => {
-            text.push_str("primop ")?;
-            atom(f.as_str(), text)?;
-            text.push_str("(")?;
-            expressions(alloc, args.as_slice(), text)?;
-            text.push_str(")")
-        }
-        Node::Try(part, xs, body, causes, handler) => {
-            text.push_str("try ")?;
-            expression(alloc, part.get(), text)?;
-            text.push_str(" of ")?;
-            variables(alloc, xs.as_slice(), text)?;
-            expression(alloc, body.get(), text)?;
-            text.push_str(" catch ")?;
-            variables(alloc, causes.as_slice(), text)?;
-            expression(alloc, handler.get(), text)
+        Node::Call(of, f, args) => call(tree, of, f, args.as_slice()),
+        Node::Primop(f, args) => primop(tree, f, args.as_slice()),
+        Node::Try(tried, xs, body, causes, handler) => {
+            part(tree, "try ", tried.get())?;
+            branch(tree, " of ", xs.as_slice(), body.get())?;
+            branch(tree, " catch ", causes.as_slice(), handler.get())
         }
         Node::Do(first, second) => {
-            text.push_str("do ")?;
-            expression(alloc, first.get(), text)?;
-            text.push_str(" ")?;
-            expression(alloc, second.get(), text)
+            part(tree, "do ", first.get())?;
+            part(tree, " ", second.get())
         }
-        Node::Catch(part) => {
-            text.push_str("catch ")?;
-            expression(alloc, part.get(), text)
-        }
+        Node::Catch(e) => part(tree, "catch ", e.get()),
     }
 }
 
+// What stands before an expression, and the expression.
 #[cycle(expression)]
 #[tactic(auto, using(core_ast::proofs::Levels::levels))]
-fn expressions(alloc: Global, parts: &[Expr], text: &mut String) -> Shown {
-    for part in parts {
-        expression(alloc, part, text)?;
-        text.push_str(";")?;
+fn part(tree: &mut Tree, before: &str, e: &Expr) -> Shown {
+    tree.push(before)?;
+    expression(tree, e)
+}
+
+// The same with variables between them.
+#[cycle(expression)]
+#[tactic(auto, using(core_ast::proofs::Levels::levels))]
+fn branch(tree: &mut Tree, before: &str, xs: &[Var], e: &Expr) -> Shown {
+    tree.push(before)?;
+    tree.variables(xs)?;
+    expression(tree, e)
+}
+
+#[cycle(expression)]
+#[tactic(auto, using(core_ast::proofs::Levels::levels))]
+fn expressions(tree: &mut Tree, before: &str, parts: &[Expr], behind: &str) -> Shown {
+    tree.push(before)?;
+    for e in parts {
+        expression(tree, e)?;
+        tree.push(";")?;
     }
-    Ok(())
+    tree.push(behind)
 }
 
 #[cycle(expression)]
 #[tactic(auto, using(core_ast::proofs::Levels::levels))]
-fn clause(alloc: Global, c: &Clause, text: &mut String) -> Shown {
-    text.push_str(" <")?;
-    patterns(alloc, c.patterns.as_slice(), text)?;
-    text.push_str("> when ")?;
-    expression(alloc, &c.guard, text)?;
-    text.push_str("->")?;
-    expression(alloc, &c.body, text)?;
-    place(alloc, c.at, text)
+fn call(tree: &mut Tree, of: &Atom, f: &Atom, args: &[Expr]) -> Shown {
+    tree.push("call ")?;
+    tree.atom(of.as_str())?;
+    tree.atom(f.as_str())?;
+    expressions(tree, "(", args, ")")
 }
 
 #[cycle(expression)]
 #[tactic(auto, using(core_ast::proofs::Levels::levels))]
-fn clauses(alloc: Global, list: &[Clause], text: &mut String) -> Shown {
+fn primop(tree: &mut Tree, f: &Atom, args: &[Expr]) -> Shown {
+    tree.push("primop ")?;
+    tree.atom(f.as_str())?;
+    expressions(tree, "(", args, ")")
+}
+
+#[cycle(expression)]
+#[tactic(auto, using(core_ast::proofs::Levels::levels))]
+fn clause(tree: &mut Tree, c: &Clause) -> Shown {
+    patterns(tree, " <", c.patterns.as_slice(), "> when ")?;
+    expression(tree, &c.guard)?;
+    part(tree, "->", &c.body)?;
+    tree.place(c.at)
+}
+
+#[cycle(expression)]
+#[tactic(auto, using(core_ast::proofs::Levels::levels))]
+fn clauses(tree: &mut Tree, list: &[Clause]) -> Shown {
     for c in list {
-        clause(alloc, c, text)?;
+        clause(tree, c)?;
     }
     Ok(())
 }
 
 #[cycle(expression)]
 #[tactic(auto, using(core_ast::proofs::Levels::levels))]
-fn fun(alloc: Global, f: &Fun, text: &mut String) -> Shown {
-    text.push_str("fun")?;
-    place(alloc, f.at, text)?;
-    variables(alloc, f.params.as_slice(), text)?;
-    expression(alloc, f.body.get(), text)
+fn fun(tree: &mut Tree, f: &Fun) -> Shown {
+    tree.push("fun")?;
+    tree.place(f.at)?;
+    branch(tree, "", f.params.as_slice(), f.body.get())
 }
 
 #[cycle(expression)]
 #[tactic(auto, using(core_ast::proofs::Levels::levels))]
-fn definition(alloc: Global, def: &FunDef, text: &mut String) -> Shown {
-    name(alloc, &def.name, text)?;
-    place(alloc, def.at, text)?;
-    text.push_str("=")?;
-    fun(alloc, &def.fun, text)?;
-    text.push_str(" ")
+fn definition(tree: &mut Tree, def: &FunDef) -> Shown {
+    tree.name(&def.name)?;
+    tree.place(def.at)?;
+    tree.push("=")?;
+    fun(tree, &def.fun)?;
+    tree.push(" ")
 }
 
 #[cycle(expression)]
 #[tactic(auto, using(core_ast::proofs::Levels::levels))]
-fn definitions(alloc: Global, defs: &[FunDef], text: &mut String) -> Shown {
+fn definitions(tree: &mut Tree, defs: &[FunDef]) -> Shown {
     for def in defs {
-        definition(alloc, def, text)?;
+        definition(tree, def)?;
     }
     Ok(())
 }
 
 /// A module.
-pub(crate) fn show_module(alloc: Global, m: &Module) -> Result<String, AllocError> {
-    let mut text = String::new(alloc);
-    atom(m.name.as_str(), &mut text)?;
-    text.push_str("[")?;
+pub(crate) fn show_module(
+    alloc: Global,
+    m: &Module,
+    with_places: bool,
+) -> Result<String, AllocError> {
+    let mut tree = Tree::new(alloc, with_places);
+    tree.atom(m.name.as_str())?;
+    tree.push("[")?;
     for (f, at) in m.exports.as_slice() {
-        name(alloc, f, &mut text)?;
-        place(alloc, *at, &mut text)?;
-        text.push_str(";")?;
+        tree.name(f)?;
+        tree.place(*at)?;
+        tree.push(";")?;
     }
-    text.push_str("][")?;
+    tree.push("][")?;
     for (a, c) in m.attributes.as_slice() {
-        atom(a.as_str(), &mut text)?;
-        text.push_str("=")?;
-        constant(alloc, c, &mut text)?;
-        text.push_str(";")?;
+        tree.atom(a.as_str())?;
+        tree.push("=")?;
+        constant(&mut tree, c)?;
+        tree.push(";")?;
     }
-    text.push_str("] ")?;
-    definitions(alloc, m.defs.as_slice(), &mut text)?;
-    Ok(text)
+    tree.push("] ")?;
+    definitions(&mut tree, m.defs.as_slice())?;
+    Ok(tree.text)
 }
 
 /// A call.
 pub(crate) fn show_call(alloc: Global, call: &Call) -> Result<String, AllocError> {
-    let mut text = String::new(alloc);
-    atom(call.name.as_str(), &mut text)?;
-    text.push_str("(")?;
-    constants(alloc, call.args.as_slice(), &mut text)?;
-    text.push_str(")")?;
-    Ok(text)
-}
-
-/// A shown tree without its places: each `@`, the digits of a line, `:` and the digits of a column behind it.
-pub(crate) fn without_places(alloc: Global, shown: &str) -> Result<String, AllocError> {
-    let mut text = String::new(alloc);
-    let mut in_place = false;
-    for c in shown.chars() {
-        if c == '@' {
-            in_place = true;
-        } else if !(c.is_ascii_digit() || c == ':') {
-            in_place = false;
-        }
-        if !in_place {
-            text.push(c)?;
-        }
-    }
-    Ok(text)
+    let mut tree = Tree::new(alloc, false);
+    tree.atom(call.name.as_str())?;
+    constants(&mut tree, "(", call.args.as_slice(), ")")?;
+    Ok(tree.text)
 }
