@@ -14,6 +14,7 @@ use Rattle.core_ast.specs.declared.tree.Node.{Node, out-Node}
 use Rattle.core_ast.specs.declared.tree.Node.TheOpen.{Node-F}
 use Rattle.core_ast.specs.declared.tree.Node.TheFolds.{fold_out-Node, fold_out-Clause, fold_out-Expr, fold_out-Fun, fold_out-FunDef, fold-Node, map-Node}
 use Rattle.core_ast.specs.declared.tree.Node.TheViews.{the_lemmas}
+use Rattle.core_ast.specs.Places.{place_of}
 use Rattle.core_ast.specs.Trees.{Pattern, patterns, Expression, expressions, Clause, clauses, Function, Definition, definitions, pattern_node_at, pattern_at, pattern_of, node_at, clause_at, expression_at, fun_at, definition_at, expression_of, clause_of, function_of, definition_of}
 
 abbrev pub level_pattern : PatNode-F PatNode RustPattern.Pattern → Place → Pattern
@@ -89,6 +90,29 @@ node_level (Node-F.Catch part) p = refl
 pub expression_is : (e : Expr) → expression_of e ≡ level (out-Node e.node) e.at
 unfolding expression_of clause_of function_of definition_of
 expression_is e = fold_out-Expr Plain Clause Expression Function Definition node_at clause_at expression_at fun_at definition_at e ∙ ap (λ f. f e.at) (fold_out-Node Plain Clause Expression Function Definition node_at clause_at expression_at fun_at definition_at e.node) ∙ node_level (out-Node e.node) e.at
+
+place_level : (l : Level) (p : Place) → place_of (level l p) ≡ p
+place_level (Node-F.Int n) p = refl
+place_level (Node-F.Atom a) p = refl
+place_level Node-F.Nil p = refl
+place_level (Node-F.Var x) p = refl
+place_level (Node-F.Name f) p = refl
+place_level (Node-F.Tuple es) p = refl
+place_level (Node-F.List es tail) p = refl
+place_level (Node-F.Values es) p = refl
+place_level (Node-F.Let xs values body) p = refl
+place_level (Node-F.Case values cs) p = refl
+place_level (Node-F.Lambda f) p = refl
+place_level (Node-F.Letrec ds body) p = refl
+place_level (Node-F.Apply f args) p = refl
+place_level (Node-F.Call m f args) p = refl
+place_level (Node-F.Primop f args) p = refl
+place_level (Node-F.Try part xs body ys handler) p = refl
+place_level (Node-F.Do first second) p = refl
+place_level (Node-F.Catch part) p = refl
+
+pub place_is : (e : Expr) → place_of (expression_of e) ≡ e.at
+place_is e = ap place_of (expression_is e) ∙ place_level (out-Node e.node) e.at
 
 pub clause_is : (c : RustClause.Clause) → clause_of c ≡ record { patterns = patterns (map pattern_of c.patterns); guard = expression_of c.guard; body = expression_of c.body; at = c.at }
 unfolding expression_of clause_of

@@ -1,8 +1,9 @@
--- The first broken rule: there is one where the module isn't good, and no other.
+-- The first broken rule: there is one exactly where the module isn't good, and no other.
 use Rattle.std.proofs.Common.{◌≡◌, ℕ, zero, suc, ◌<◌, ◌⊎◌, inl, inr, List, [], Option, Some, None, MatchOption, Contains, length, arith, refl, ap, sym, subst}
 use Rattle.hipe_terms.specs.declared.place.Place.{Place}
 use Rattle.core_ast.specs.declared.rule.Rule.{Rule}
 use Rattle.core_ast.specs.declared.rule.Broken.{Broken}
+use Rattle.core_ast.specs.Trees.{Module}
 use Rattle.core_ast.specs.Rules.{rank}
 use Rattle.core_ast.specs.Good.{broken_in, IsBroken, IsGood, IsBefore, IsFirstBroken}
 use Rattle.core_ast.specs.First.{noted_all}
@@ -18,6 +19,10 @@ some_first m bad = go (noted_all (spots_by m all_rules) None) (first_or_good m) 
 
 nowhere : (ps : List Place) (p : Place) → ps ≡ [] → Contains ps p → ⊥
 nowhere ps p e c = let l = subst (λ xs. c.0 < length xs) e c.1 in omega (arith, l)
+
+-- a module with a first broken rule isn't good
+pub broken_is_bad : (m : Module) (rule : Rule) (p : Place) → IsFirstBroken m rule p → IsGood m → ⊥
+broken_is_bad m rule p first good = nowhere (broken_in rule m) p (good rule) first.broken
 
 pub broken_somewhere : BrokenWhereNotGood
 broken_somewhere m =

@@ -1,16 +1,15 @@
 -- How functions are applied and entered.
-use Rattle.std.proofs.Common.{◌≡◌, ℕ, zero, suc, ◌+◌, ◌-◌, ◌<◌, ◌≤◌, List, [], ◌∷◌, Option, Some, None, length, refl, sym, ap, ◌∙◌, subst, arith}
-use Rattle.std.specs.Prelude.{option_map, slice_get, sum, map, codes}
+use Rattle.std.proofs.Common.{◌≡◌, ℕ, zero, suc, ◌+◌, ◌-◌, ◌<◌, List, [], ◌∷◌, Option, Some, None, length, refl, sym, ap, ◌∙◌, arith}
+use Rattle.std.specs.Prelude.{option_map, slice_get, sum, map}
 use Rattle.hipe_terms.specs.declared.constant.Call.{Call}
-use Rattle.hipe_terms.specs.Terms.{Term, atom, term_of}
+use Rattle.hipe_terms.specs.Terms.{Term, term_of}
 use Rattle.hipe_terms.specs.Words.{words_of}
-use Rattle.hipe_terms.specs.Outcome.{error, bif_outcome}
+use Rattle.hipe_terms.specs.Outcome.{bif_outcome}
 use Rattle.core_ast.specs.Trees.{Module}
 use Rattle.core_meaning.specs.Procedures.{Procedure, Program, claim_of, program_of}
-use Rattle.core_meaning.specs.Meaning.{State, Ending, Run, ends, with_count, entering, exported, own_function, arity_of, applies_named, calls, calls_own, performs, at_entry, enters, calls_within}
+use Rattle.core_meaning.specs.Meaning.{State, Ending, ends, with_count, entering, exported, own_function, arity_of, applies_named, calls, calls_own, performs, at_entry, enters, calls_within}
 use Rattle.core_meaning.specs.Source.{unlimited, at_start, called_name, claim_if_any, starts, source_run}
 use Rattle.std.proofs.lemmas.List.{length-map}
-use Rattle.std.proofs.Math.Path.{fun_ext}
 use Rattle.hipe_terms.specs.Bifs.{built_in}
 use Rattle.hipe_terms.specs.declared.bif.Bif.{Bif}
 use Rattle.core_eval.proofs.Places.{depth_is}
@@ -25,7 +24,7 @@ use Rattle.core_procedures.specs.Shown.{procedure_in}
 use Rattle.core_eval.proofs.Waits.{builds_more}
 use Rattle.core_eval.specs.Counting.{more_words}
 use Rattle.core_eval.proofs.Fuel.{enters_by_fuel}
-use Rattle.core_eval.proofs.Grows.{Grows, end_grows, frames_grow}
+use Rattle.core_eval.proofs.Grows.{end_grows, frames_grow}
 
 module _ (program : Program) where
   pub enters_none : (n : ℕ) (captured ts : List Term) (d : ℕ) (s : State) (w : Waiting) → enters_with program n None captured ts d s w ≡ ends Ending.stuck s

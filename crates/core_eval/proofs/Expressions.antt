@@ -1,8 +1,7 @@
 -- Expressions, by what they are.
-use Rattle.std.proofs.Common.{◌≡◌, ℕ, suc, ◌+◌, List, [], ◌∷◌, ◌++◌, Option, Some, None, map, length, refl, sym, ap, ◌∙◌}
+use Rattle.std.proofs.Common.{◌≡◌, suc, ◌+◌, List, [], ◌∷◌, Option, Some, None, map, length, refl, ap, ◌∙◌}
 use Rattle.std.proofs.Math.Path.{fun_ext}
 use Rattle.hipe_terms.specs.Terms.{Term, integer, atom, nil}
-use Rattle.hipe_terms.specs.Outcome.{Class}
 use Rattle.hipe_terms.specs.declared.place.Place.{Place}
 use Rattle.core_ast.specs.declared.pattern.Var.{Var}
 use Rattle.core_ast.specs.declared.pattern.Pattern.{Pattern}
@@ -21,7 +20,7 @@ use Rattle.core_meaning.specs.Scopes.{names, captured_by_fun, count_definitions,
 use Rattle.core_meaning.specs.Procedures.{Program}
 use Rattle.core_meaning.specs.Meaning.{State, Ending, Run, ends, Context, worked, part, behind, with, with_functions, with_one, with_count, with_value, value_of, values_in, function_of, makes_fun, makes_named, count_clauses, tested_nodes, direct, causes, eval, eval_all, applies, applies_named}
 use Rattle.core_meaning.specs.Source.{unlimited}
-use Rattle.core_eval.specs.Waiting.{Waiting, Purpose, applied_as, for_tuple, for_list, for_values, for_name, for_value, for_call, for_primop, calls_by_fuel, evaluates, chooses, tail_waits, reaches, evaluates_parts, operator_waits, binds, let_waits, case_waits, handles, try_waits, do_waits, catch_waits}
+use Rattle.core_eval.specs.Waiting.{Waiting, applied_as, for_tuple, for_list, for_values, for_call, for_primop, calls_by_fuel, evaluates, chooses, tail_waits, reaches, evaluates_parts, operator_waits, binds, let_waits, case_waits, handles, try_waits, do_waits, catch_waits}
 
 pub counted : (es : List Expr) → count (expressions (map expression_of es)) ≡ length es
 counted [] = refl

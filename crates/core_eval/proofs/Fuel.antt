@@ -1,18 +1,13 @@
 -- Applications, where each has at most as many below it as there is fuel.
-use Rattle.std.proofs.Common.{◌≡◌, ℕ, zero, suc, ◌+◌, ◌≤◌, List, [], ◌∷◌, Option, Some, None, length, refl, sym, ap, ◌∙◌, subst, arith}
-use Rattle.std.specs.Prelude.{Bool, true, false, slice_get, sum, map}
-use Rattle.hipe_terms.specs.declared.constant.Call.{Call}
-use Rattle.hipe_terms.specs.Terms.{Term, term_of}
-use Rattle.hipe_terms.specs.Words.{words_of}
-use Rattle.hipe_terms.specs.Outcome.{Class}
-use Rattle.core_ast.specs.Trees.{Module}
-use Rattle.core_meaning.specs.Procedures.{Procedure, Program, program_of}
-use Rattle.core_meaning.specs.Meaning.{State, Ending, Run, ends, Limits, Next, Handler, Calls, passes, builds, entering, exported, at_entry, enters, calls_within}
-use Rattle.core_meaning.specs.Laws.{Grown, NextGrows, HandlerGrows}
-use Rattle.core_meaning.specs.Source.{unlimited, at_start, called_name, starts, source_run}
-use Rattle.core_meaning.proofs.Growth.{grown_refl, calls_within_grow, CallGrows}
-use Rattle.core_meaning.proofs.Alike.{Handlers, Nexts, CallsAlike, cond_alike, count_alike, alike}
-use Rattle.core_meaning.proofs.Depth.{Equal, At, One, steps, same_calls, SameCalls}
+use Rattle.std.proofs.Common.{◌≡◌, ℕ, ◌+◌, ◌≤◌, List, Option, Some, None, length, refl, ap, subst, arith}
+use Rattle.hipe_terms.specs.Terms.{Term}
+use Rattle.core_meaning.specs.Procedures.{Procedure, Program}
+use Rattle.core_meaning.specs.Meaning.{State, Run, Next, Handler, entering, at_entry, enters, calls_within}
+use Rattle.core_meaning.specs.Laws.{NextGrows, HandlerGrows}
+use Rattle.core_meaning.specs.Source.{unlimited}
+use Rattle.core_meaning.proofs.Growth.{calls_within_grow, CallGrows}
+use Rattle.core_meaning.proofs.Alike.{Handlers, Nexts, CallsAlike, count_alike, alike}
+use Rattle.core_meaning.proofs.Depth.{Equal, At, One, steps, same_calls}
 use Rattle.core_eval.specs.Waiting.{calls_by_fuel}
 
 abbrev Any : Run → Type 0

@@ -1,13 +1,11 @@
 -- What waits takes nothing back.
-use Rattle.std.proofs.Common.{◌≡◌, ℕ, List, [], ◌∷◌, ◌++◌, Option, Some, None, length}
-use Rattle.std.specs.Prelude.{Bool, true, false}
-use Rattle.hipe_terms.specs.Terms.{Term, terms, tuple, cells}
-use Rattle.hipe_terms.specs.Words.{list_words, tuple_words}
+use Rattle.std.proofs.Common.{ℕ, List, [], ◌∷◌, ◌++◌, Option, Some, None, length}
+use Rattle.hipe_terms.specs.Terms.{Term}
 use Rattle.core_ast.specs.declared.pattern.Var.{Var}
 use Rattle.core_ast.specs.Trees.{Expression, Expressions, Clauses}
 use Rattle.core_meaning.specs.Scopes.{names}
 use Rattle.core_meaning.specs.Procedures.{Program}
-use Rattle.core_meaning.specs.Meaning.{State, Ending, Run, ends, Context, builds, with, with_one, is_true, causes, caught, function_of}
+use Rattle.core_meaning.specs.Meaning.{State, Ending, Context, with, is_true, causes, function_of}
 use Rattle.core_meaning.specs.Laws.{Grown, NextGrows, HandlerGrows}
 use Rattle.core_meaning.specs.Source.{unlimited}
 use Rattle.core_meaning.proofs.Growth.{grown_refl, bool_grows, builds_grow, one_grows, count_grows, caught_grows, primop_grows, applies_grows, applies_named_grows, calls_grows, grows, all_grow, choose_grows}

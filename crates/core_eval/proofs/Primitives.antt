@@ -1,14 +1,11 @@
 -- What is done with values, one step at a time, where there are no limits.
-use Rattle.std.proofs.Common.{◌≡◌, ◌≢◌, ℕ, suc, ◌+◌, ◌*◌, append-nil, eq-eqb, inl, inr, List, [], ◌∷◌, ◌++◌, Option, Some, None, length, map, refl, sym, ap, ◌∙◌, arith}
-use Rattle.std.specs.Prelude.{Bool, true, false, if◌then◌else◌, nat_eq, codes, bytes_eq}
-use Rattle.hipe_terms.specs.Bifs.{built_in}
-use Rattle.hipe_terms.specs.declared.bif.Bif.{Bif}
-use Rattle.hipe_terms.specs.Terms.{Term, integer, atom, nil, cons, tuple, fun, Terms, none, more, terms, listed, cells}
-use Rattle.hipe_terms.specs.Words.{list_words, tuple_words}
-use Rattle.hipe_terms.specs.Outcome.{Class, error, exit, throw, End, Outcome, bif_outcome}
+use Rattle.std.proofs.Common.{◌≡◌, ◌≢◌, ℕ, ◌+◌, ◌*◌, append-nil, eq-eqb, inl, inr, List, [], ◌∷◌, ◌++◌, Some, None, length, refl, ap, arith}
+use Rattle.std.specs.Prelude.{Bool, false, if◌then◌else◌, nat_eq, codes}
+use Rattle.hipe_terms.specs.Terms.{Term, atom, nil, fun, terms, listed}
+use Rattle.hipe_terms.specs.Outcome.{error, exit, throw, Outcome}
 use Rattle.core_ast.proofs.Levels.{levels}
 use Rattle.core_meaning.specs.Procedures.{Program}
-use Rattle.core_meaning.specs.Meaning.{State, Ending, Run, ends, Next, Handler, worked, printing, builds, pair, fails, with_one, with_count, with_value, no_clause_for, makes_fun, makes_named, caught, arity_of, own_function, applies_named, comes_to, performs, applies, calls_own, calls}
+use Rattle.core_meaning.specs.Meaning.{State, Ending, Run, ends, Next, Handler, worked, printing, builds, pair, with_one, with_count, with_value, makes_fun, caught, comes_to, performs}
 use Rattle.core_meaning.specs.Source.{unlimited}
 use Rattle.std.proofs.lemmas.List.{length-map}
 use Rattle.core_values.proofs.Made.{made}
@@ -16,9 +13,7 @@ use Rattle.core_values.specs.declared.value.Value.{Value}
 use Rattle.core_values.specs.Values.{term_in, terms_in}
 use Rattle.std.proofs.lemmas.Bool.Decides.{eqb_tells}
 use Rattle.core_eval.specs.Counting.{more_words}
-use Rattle.core_eval.specs.Waiting.{calls_by_fuel}
-use Rattle.core_eval.proofs.Waits.{builds_more}
-use Rattle.core_eval.proofs.Places.{depth_is, number_is, bound_is, scope_is}
+use Rattle.core_eval.proofs.Places.{number_is, bound_is, scope_is}
 
 pub value_some : (t : Term) (s : State) (k : Next) → with_value (Some t) s k ≡ k (t ∷ []) s
 unfolding with_value

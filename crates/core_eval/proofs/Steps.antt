@@ -1,6 +1,6 @@
 -- One step of each frame, and of what is applied, chosen and raised.
-use Rattle.std.proofs.Common.{◌≡◌, ◌≢◌, ℕ, zero, suc, ◌+◌, ◌*◌, ◌<◌, List, [], ◌∷◌, ◌++◌, Option, Some, None, length, map, get_or, refl, sym, ap, ◌∙◌, arith}
-use Rattle.std.specs.Prelude.{Bool, true, false, if◌then◌else◌, ◌==◌, bytes_eq, codes}
+use Rattle.std.proofs.Common.{◌≡◌, ◌≢◌, ℕ, zero, suc, ◌+◌, ◌*◌, List, [], ◌∷◌, Some, None, length, get_or, refl, sym, ap, ◌∙◌, arith}
+use Rattle.std.specs.Prelude.{true, false, if◌then◌else◌, ◌==◌, bytes_eq, codes}
 use Rattle.std.proofs.lemmas.List.{length-map}
 use Rattle.hipe_terms.specs.declared.place.Place.{Place}
 use Rattle.hipe_terms.specs.Terms.{Term, integer, atom, nil, cons, tuple, fun, Terms, none, more, terms, listed, cells}
@@ -8,23 +8,23 @@ use Rattle.hipe_terms.specs.Outcome.{Class, error}
 use Rattle.core_ast.specs.declared.pattern.Var.{Var}
 use Rattle.core_ast.specs.declared.tree.FunName.{FunName}
 use Rattle.core_ast.specs.Degrees.{count_patterns}
-use Rattle.core_ast.specs.Trees.{Patterns, Expression, Expressions, Clauses, no_clause, and_clause}
+use Rattle.core_ast.specs.Trees.{Patterns, Expression, Expressions, Clauses, and_clause}
 use Rattle.core_ast.proofs.Levels.{levels}
+use Rattle.core_ast.proofs.Words.{bytes_eq-word}
 use Rattle.core_meaning.specs.Matching.{matched_all}
 use Rattle.core_meaning.specs.Procedures.{Program}
-use Rattle.core_meaning.specs.Scopes.{names, bound_by, funs}
-use Rattle.core_meaning.specs.Meaning.{State, Ending, Run, ends, Context, Next, Handler, Calls, pair, part, behind, with, with_one, with_count, class_atom, causes, raise, match_fail, raises_as, is_function_clause, build_stacktrace, primop, no_clause_for, arity_of, applies, applies_named, builds, calls, function_of}
+use Rattle.core_meaning.specs.Scopes.{names, bound_by}
+use Rattle.core_meaning.specs.Meaning.{State, Ending, Run, ends, Context, Next, Handler, pair, with, with_one, class_atom, causes, raise, match_fail, is_function_clause, build_stacktrace, primop, no_clause_for, arity_of, applies, applies_named, builds, calls, function_of}
 use Rattle.core_meaning.specs.Source.{unlimited}
 use Rattle.core_values.specs.declared.value.Value.{Value}
 use Rattle.core_values.specs.Values.{term_in, terms_in}
-use Rattle.core_contexts.proofs.Words.{bytes_eq-word}
 use Rattle.core_eval.specs.Counting.{more_words}
 use Rattle.core_eval.specs.Shapes.{fun_of, one_of, two_of}
-use Rattle.core_eval.specs.Waiting.{Waiting, Purpose, for_tuple, for_list, for_values, for_name, for_value, for_call, for_primop, calls_by_fuel, evaluates, chooses, tail_waits, reaches, evaluates_parts, parts_wait, operator_waits, binds, let_waits, case_waits, guard_waits, handles, try_waits, do_waits, catch_waits}
+use Rattle.core_eval.specs.Waiting.{Waiting, Purpose, for_tuple, for_list, for_values, for_name, for_value, for_call, for_primop, calls_by_fuel, evaluates, chooses, tail_waits, reaches, parts_wait, operator_waits, binds, guard_waits, handles, catch_waits}
 use Rattle.core_eval.specs.Tests.{tries}
 use Rattle.core_eval.proofs.Expressions.{counted_patterns}
 use Rattle.core_eval.proofs.Primitives.{listed_is, count_same, count_other}
-use Rattle.core_eval.proofs.Waits.{wait_last, none_wait, choose_none, choose_first, tail_one, parts_one, operator_one, let_next, case_next, guard_one, try_next, do_next, catch_one, tail_handler, parts_handler, operator_handler, let_handler, case_handler, guard_handler, try_handler, do_handler, catch_handler}
+use Rattle.core_eval.proofs.Waits.{wait_last, none_wait, choose_first, tail_one, parts_one, operator_one, let_next, case_next, guard_one, try_next, do_next, catch_one, tail_handler, parts_handler, operator_handler, let_handler, case_handler, guard_handler, try_handler, do_handler, catch_handler}
 
 -- ---- lists of values
 

@@ -3,23 +3,22 @@ use Rattle.std.proofs.Common.{◌≡◌, ℕ, ◌+◌, List, [], ◌∷◌, ◌+
 use Rattle.std.specs.Prelude.{Bool, true, false}
 use Rattle.std.proofs.Math.Path.{fun_ext}
 use Rattle.std.proofs.Math.Seq.{take-length}
-use Rattle.hipe_terms.specs.Terms.{Term, terms, tuple, cells}
-use Rattle.hipe_terms.specs.Words.{list_words, tuple_words}
+use Rattle.hipe_terms.specs.Terms.{Term, terms, cells}
+use Rattle.hipe_terms.specs.Words.{list_words}
 use Rattle.hipe_terms.specs.Outcome.{Class}
 use Rattle.hipe_terms.specs.declared.place.Place.{Place}
 use Rattle.core_ast.specs.declared.pattern.Var.{Var}
-use Rattle.core_ast.specs.declared.tree.FunName.{FunName}
 use Rattle.core_ast.specs.Trees.{Patterns, Expression, Expressions, no_expression, and_expression, Clauses, no_clause, and_clause, expressions, expression_of}
 use Rattle.core_ast.specs.declared.tree.Expr.{Expr}
 use Rattle.core_ast.specs.Degrees.{count_patterns}
-use Rattle.core_meaning.specs.Scopes.{names, bound_by, funs}
+use Rattle.core_meaning.specs.Scopes.{bound_by, funs}
 use Rattle.core_meaning.specs.Matching.{matched_all}
 use Rattle.core_meaning.specs.Procedures.{Program}
-use Rattle.core_meaning.specs.Meaning.{State, Ending, Run, ends, Context, Next, Handler, builds, part, behind, with, with_one, with_count, no_clause_for, is_true, causes, caught, primop, applies_named, applies, calls, function_of, eval, eval_all}
+use Rattle.core_meaning.specs.Meaning.{State, Run, Context, builds, part, behind, with, with_one, with_count, no_clause_for, is_true, causes, caught, eval, eval_all}
 use Rattle.core_meaning.specs.Source.{unlimited}
 use Rattle.core_eval.specs.declared.frame.Frame.{Frame}
 use Rattle.core_eval.specs.Counting.{more_words}
-use Rattle.core_eval.specs.Waiting.{Waiting, at_end, Purpose, for_tuple, for_list, for_values, for_name, for_value, for_call, for_primop, calls_by_fuel, evaluates, chooses, tail_waits, reaches, evaluates_parts, parts_wait, operator_waits, binds, let_waits, case_waits, guard_waits, handles, try_waits, do_waits, catch_waits}
+use Rattle.core_eval.specs.Waiting.{Waiting, at_end, Purpose, for_value, calls_by_fuel, evaluates, chooses, tail_waits, reaches, evaluates_parts, parts_wait, operator_waits, binds, let_waits, case_waits, guard_waits, handles, try_waits, do_waits, catch_waits}
 use Rattle.core_eval.specs.Tests.{guarded, tries}
 use Rattle.core_eval.specs.Configurations.{frame_waits, frames_above, frames_wait}
 

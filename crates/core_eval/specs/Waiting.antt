@@ -2,7 +2,7 @@
 --
 -- Each part of an expression that waits is a pair of these, given those of what waits below it. Together with what is done next they say how
 -- the run goes on, by the definition of the language alone.
-use Rattle.std.specs.Prelude.{ℕ, ◌+◌, Bool, true, false, Option, Some, None, List, [], ◌∷◌, ◌++◌, length}
+use Rattle.std.specs.Prelude.{ℕ, ◌+◌, true, false, Option, Some, None, List, [], ◌∷◌, ◌++◌, length}
 use Rattle.hipe_terms.specs.Terms.{Term, tuple, terms, cells}
 use Rattle.hipe_terms.specs.Words.{list_words, tuple_words}
 use Rattle.core_ast.specs.declared.pattern.Var.{Var}

@@ -1,11 +1,13 @@
 -- The grammar: which terminals derive which tree. Each fact says that a list of terminals begins with what it names, and
--- which terminals come after it. The names are those of the productions of Core Erlang 1.0.3; A(x) is `x` or
--- `( x -| [ constants ] )`. A part stands where its first terminal stands, where the `(` of annotations don't count. A part
--- without a terminal, as the tail of `[E]`, stands where the innermost list or text stands.
+-- which terminals come after it. A(x) is `x` or `( x -| [ constants ] )`, and list(x) is none or more x with commas. A part
+-- stands where its first terminal stands, where the `(` of annotations don't count. A part without a terminal, as the tail of
+-- `[E]`, stands where the innermost list or text stands.
 --
--- The productions stand from constants up to the module, since each speaks only of those above it. Where `x` leads back to
--- what it is a part of, `A(x)` and `list(x)` are written out: beside `BarePattern`, which is x, stands `PatternOf`, which is
--- A(x), and beside `SomePatterns`, which is one or more x with commas, stands `PatternsOf`, which is list(x).
+-- The productions are those of the profile of Core Erlang 1.0.3 that docs/LANGUAGE.md lists, in its order, from the module
+-- down to patterns. What stands as x in A(x) or list(x) comes before them: constants, names, exports and attributes, which
+-- lead back to none of them. Where x leads back to what it is a part of, A(x) and list(x) are written out: beside
+-- `BarePattern`, which is x, stands `PatternOf`, which is A(x), and beside `SomePatterns`, which is one or more x with commas,
+-- stands `PatternsOf`, which is list(x). The last are the module as a whole and calls from outside.
 use Rattle.std.specs.Prelude.{◌≡◌, ℕ, ℤ, pos, ◌+◌, List, [], ◌∷◌, true}
 use Rattle.hipe_terms.specs.declared.place.Place.{Place}
 use Rattle.hipe_terms.specs.declared.constant.Constant.{Constant}
@@ -31,7 +33,7 @@ use Rattle.core_grammar.specs.Trees.{constant_of, constant_cells, constant_nil, 
 abbrev pub MayBegin : Leave → ℕ → List Terminal → Type 0
 MayBegin ok k ts = ok (part k) ts ≡ true
 
--- an integer or a character, and its value
+-- integer | character, and its value: a character is an integer
 pub data Integer : Kind → ℤ → Type 0 where
   digits : (n : ℕ) → Integer (Kind.Natural n) (pos n)
   signed_or_character : (n : ℤ) → Integer (Kind.Integer n) n
@@ -134,125 +136,29 @@ pub data AtomOf (a : List ℕ) : List Terminal → List Terminal → Type 0 wher
 pub data VariableOf (x : Var) : List Terminal → List Terminal → Type 0 where
   variable : {us : List Terminal} → VariableOf x (token (Kind.Variable x.name) x.at ∷ us) us
 
+-- A(variable)
+abbrev pub AnnotatedVariable : Leave → Var → List Terminal → List Terminal → Type 0
+AnnotatedVariable ok x ts us = Annotated ok (VariableOf x) ts us
+
 -- fname, which stands at p
 pub data NameOf (f : FunName) (p : Place) : List Terminal → List Terminal → Type 0 where
   -- atom / integer
   function_name : {us : List Terminal} (q r : Place)
       → NameOf f p (token (Kind.Atom f.name) p ∷ mark Mark.Slash q ∷ token (Kind.Natural f.arity) r ∷ us) us
 
--- A(variable)
-abbrev pub AnnotatedVariable : Leave → Var → List Terminal → List Terminal → Type 0
-AnnotatedVariable ok x ts us = Annotated ok (VariableOf x) ts us
+-- exports and attributes
 
--- Vars
-pub data VariablesOf (ok : Leave) : List Var → List Terminal → List Terminal → Type 0 where
-  -- A(variable)
-  one_variable : {x : Var} {ts us : List Terminal}
-      → AnnotatedVariable ok x ts us
-      → VariablesOf ok (x ∷ []) ts us
-  -- < list(A(variable)) >
-  value_variables : {xs : List Var} {ts us : List Terminal} (p q : Place)
-      → ListOf Var (AnnotatedVariable ok) xs ts (mark Mark.Greater q ∷ us)
-      → VariablesOf ok xs (mark Mark.Less p ∷ ts) us
+-- A(fname) as an export, with its place
+abbrev pub ExportOf : Leave → FunName × Place → List Terminal → List Terminal → Type 0
+ExportOf ok e ts us = Annotated ok (NameOf e.0 e.1) ts us
 
--- patterns
-
-mutual
-  -- P
-  pub data PatternOf (ok : Leave) : ℕ → Pattern → List Terminal → List Terminal → Type 0 where
-    -- pat
-    pattern_bare : {k : ℕ} {f : Pattern} {ts us : List Terminal}
-        → BarePattern ok k f ts us
-        → PatternOf ok k f ts us
-    -- ( pat -| [..] )
-    pattern_annotated : {k : ℕ} {f : Pattern} {ts us ws : List Terminal} (o : Place)
-        → BarePattern ok k f ts us
-        → Annotation ok us ws
-        → PatternOf ok k f (mark Mark.OpenRound o ∷ ts) ws
-    -- A(variable) = P
-    pattern_aliased : {k : ℕ} {x : Var} {f : Pattern} {ts us ws : List Terminal} (q : Place)
-        → MayBegin ok k (inner ts)
-        → AnnotatedVariable ok x ts (mark Mark.Equals q ∷ us)
-        → PatternOf ok (k + 1) f us ws
-        → PatternOf ok k (pattern_at x.at (PatNode-F.Alias x f)) ts ws
-
-  -- pat
-  pub data BarePattern (ok : Leave) : ℕ → Pattern → List Terminal → List Terminal → Type 0 where
-    -- variable
-    pattern_variable : {k : ℕ} {us : List Terminal} (x : List ℕ) (p : Place)
-        → MayBegin ok k (token (Kind.Variable x) p ∷ us)
-        → BarePattern ok k (pattern_at p (PatNode-F.Var x)) (token (Kind.Variable x) p ∷ us) us
-    -- integer | character
-    pattern_integer : {k : ℕ} {t : Kind} {n : ℤ} {us : List Terminal} (p : Place)
-        → Integer t n
-        → MayBegin ok k (token t p ∷ us)
-        → BarePattern ok k (pattern_at p (PatNode-F.Int n)) (token t p ∷ us) us
-    -- text
-    pattern_characters : {k : ℕ} {us : List Terminal} (s : List ℕ) (p : Place)
-        → MayBegin ok (text_level k s) (token (Kind.Text s) p ∷ us)
-        → BarePattern ok k (pattern_text p s) (token (Kind.Text s) p ∷ us) us
-    -- atom
-    pattern_atom : {k : ℕ} {us : List Terminal} (a : List ℕ) (p : Place)
-        → MayBegin ok k (token (Kind.Atom a) p ∷ us)
-        → BarePattern ok k (pattern_at p (PatNode-F.Atom a)) (token (Kind.Atom a) p ∷ us) us
-    -- [ ]
-    pattern_empty : {k : ℕ} {us : List Terminal} (p q : Place)
-        → MayBegin ok k (mark Mark.OpenSquare p ∷ mark Mark.CloseSquare q ∷ us)
-        → BarePattern ok k (pattern_nil p) (mark Mark.OpenSquare p ∷ mark Mark.CloseSquare q ∷ us) us
-    -- { list(P) }
-    pattern_tuple : {k : ℕ} {fs : List Pattern} {ts us : List Terminal} (p q : Place)
-        → MayBegin ok k (mark Mark.OpenBrace p ∷ ts)
-        → PatternsOf ok (k + 1) fs ts (mark Mark.CloseBrace q ∷ us)
-        → BarePattern ok k (pattern_at p (PatNode-F.Tuple fs)) (mark Mark.OpenBrace p ∷ ts) us
-    -- [ P , .. , P ]
-    pattern_list : {k : ℕ} {fs : List Pattern} {ts us : List Terminal} (p q : Place)
-        → MayBegin ok k (mark Mark.OpenSquare p ∷ ts)
-        → SomePatterns ok (k + 1) fs ts (mark Mark.CloseSquare q ∷ us)
-        → BarePattern ok k (pattern_at p (PatNode-F.List fs (pattern_nil p))) (mark Mark.OpenSquare p ∷ ts) us
-    -- [ P , .. , P | P ]
-    pattern_list_before : {k : ℕ} {fs : List Pattern} {f : Pattern} {ts us ws : List Terminal} (p q r : Place)
-        → MayBegin ok k (mark Mark.OpenSquare p ∷ ts)
-        → SomePatterns ok (k + 1) fs ts (mark Mark.Bar q ∷ us)
-        → PatternOf ok k f us (mark Mark.CloseSquare r ∷ ws)
-        → BarePattern ok k (pattern_cells p fs f) (mark Mark.OpenSquare p ∷ ts) ws
-    -- A(variable) = P
-    pattern_alias : {k : ℕ} {x : Var} {f : Pattern} {ts us ws : List Terminal} (q : Place)
-        → MayBegin ok k (inner ts)
-        → AnnotatedVariable ok x ts (mark Mark.Equals q ∷ us)
-        → PatternOf ok (k + 1) f us ws
-        → BarePattern ok k (pattern_at x.at (PatNode-F.Alias x f)) ts ws
-
-  -- P, .. , P
-  pub data SomePatterns (ok : Leave) : ℕ → List Pattern → List Terminal → List Terminal → Type 0 where
-    last_pattern : {k : ℕ} {f : Pattern} {ts us : List Terminal}
-        → PatternOf ok k f ts us
-        → SomePatterns ok k (f ∷ []) ts us
-    more_patterns : {k : ℕ} {f : Pattern} {fs : List Pattern} {ts us ws : List Terminal} (p : Place)
-        → PatternOf ok k f ts (mark Mark.Comma p ∷ us)
-        → SomePatterns ok k fs us ws
-        → SomePatterns ok k (f ∷ fs) ts ws
-
-  -- list(P)
-  pub data PatternsOf (ok : Leave) : ℕ → List Pattern → List Terminal → List Terminal → Type 0 where
-    no_patterns : {k : ℕ} {us : List Terminal} → PatternsOf ok k [] us us
-    some_patterns : {k : ℕ} {fs : List Pattern} {ts us : List Terminal}
-        → SomePatterns ok k fs ts us
-        → PatternsOf ok k fs ts us
-
--- Pats: the patterns of a clause of level k that begins at p. One pattern begins with the same terminal as its clause, and
--- asks for both.
-pub data ClausePatterns (ok : Leave) : ℕ → Place → List Pattern → List Terminal → List Terminal → Type 0 where
-  -- P
-  one_pattern : {k : ℕ} {f : Pattern} {ts us : List Terminal}
-      → PatternOf ok (k + 1) f ts us
-      → ClausePatterns ok k f.at (f ∷ []) ts us
-  -- < list(P) >
-  value_patterns : {k : ℕ} {fs : List Pattern} {ts us : List Terminal} (p q : Place)
-      → MayBegin ok k (mark Mark.Less p ∷ ts)
-      → PatternsOf ok (k + 1) fs ts (mark Mark.Greater q ∷ us)
-      → ClausePatterns ok k p fs (mark Mark.Less p ∷ ts) us
-
--- expressions
+-- attr
+pub data AttributeOf (ok : Leave) : List ℕ × Constant → List Terminal → List Terminal → Type 0 where
+  -- A(atom) = A(constant)
+  attribute : {a : List ℕ} {c : Constant} {ts us ws : List Terminal} (q : Place)
+      → Annotated ok (AtomOf a) ts (mark Mark.Equals q ∷ us)
+      → Annotated ok (ConstantOf ok 1 c) us ws
+      → AttributeOf ok (a, c) ts ws
 
 -- the module or the name of a `call`: A(atom), or a variable where there is leave, whose name is then of no matter
 pub data Operand (ok : Leave) : List ℕ → List Terminal → List Terminal → Type 0 where
@@ -261,7 +167,58 @@ pub data Operand (ok : Leave) : List ℕ → List Terminal → List Terminal →
       → ok variable_operand (token (Kind.Variable x) p ∷ us) ≡ true
       → Operand ok [] (token (Kind.Variable x) p ∷ us) us
 
+-- modules
+
+abbrev pub module_at : List ℕ → List (FunName × Place) → List (List ℕ × Constant) → List FunDef → Module
+module_at a exports attributes defs = record { name = a; exports = exports; attributes = attributes; defs = defs }
+
 mutual
+  -- module
+  pub data BareModule (ok : Leave) : Module → List Terminal → List Terminal → Type 0 where
+    -- module atom [ list(A(fname)) ] attributes [ list(attr) ] def* end
+    «module» : {exports : List (FunName × Place)} {attributes : List (List ℕ × Constant)} {ds : List FunDef} {ts us vs ws : List Terminal} (a : List ℕ) (p q r s t u v w : Place)
+        → ListOf (FunName × Place) (ExportOf ok) exports ts (mark Mark.CloseSquare s ∷ mark Mark.Attributes t ∷ mark Mark.OpenSquare u ∷ us)
+        → ListOf (List ℕ × Constant) (AttributeOf ok) attributes us (mark Mark.CloseSquare v ∷ vs)
+        → DefinitionsOf ok 1 ds vs (mark Mark.End w ∷ ws)
+        → BareModule ok (module_at a exports attributes ds) (mark Mark.Module p ∷ token (Kind.Atom a) q ∷ mark Mark.OpenSquare r ∷ ts) ws
+
+  -- def, none or more
+  pub data DefinitionsOf (ok : Leave) : ℕ → List FunDef → List Terminal → List Terminal → Type 0 where
+    no_definitions : {k : ℕ} {us : List Terminal} → DefinitionsOf ok k [] us us
+    more_definitions : {k : ℕ} {d : FunDef} {ds : List FunDef} {ts us ws : List Terminal}
+        → DefinitionOf ok k d ts us
+        → DefinitionsOf ok k ds us ws
+        → DefinitionsOf ok k (d ∷ ds) ts ws
+
+  -- def
+  pub data DefinitionOf (ok : Leave) : ℕ → FunDef → List Terminal → List Terminal → Type 0 where
+    -- A(fname) = A(fun)
+    definition : {k : ℕ} {f : FunName} {p : Place} {g : Fun} {ts us ws : List Terminal} (q : Place)
+        → Annotated ok (NameOf f p) ts (mark Mark.Equals q ∷ us)
+        → FunOf ok k g us ws
+        → DefinitionOf ok k (definition_at p f g) ts ws
+
+  -- A(fun)
+  pub data FunOf (ok : Leave) : ℕ → Fun → List Terminal → List Terminal → Type 0 where
+    -- fun
+    fun_bare : {k : ℕ} {p : Place} {f : Fun} {ts us : List Terminal}
+        → BareFun ok k p f ts us
+        → FunOf ok k f ts us
+    -- ( fun -| [..] )
+    fun_annotated : {k : ℕ} {p : Place} {f : Fun} {ts us ws : List Terminal} (o : Place)
+        → BareFun ok k p f ts us
+        → Annotation ok us ws
+        → FunOf ok k f (mark Mark.OpenRound o ∷ ts) ws
+
+  -- fun, which stands at p
+  pub data BareFun (ok : Leave) : ℕ → Place → Fun → List Terminal → List Terminal → Type 0 where
+    -- fun ( list(A(variable)) ) -> E
+    «fun» : {k : ℕ} {xs : List Var} {e : Expr} {ts us ws : List Terminal} (p q r s : Place)
+        → MayBegin ok k (mark Mark.Fun p ∷ mark Mark.OpenRound q ∷ ts)
+        → ListOf Var (AnnotatedVariable ok) xs ts (mark Mark.CloseRound r ∷ mark Mark.Arrow s ∷ us)
+        → ExpressionOf ok (k + 1) e us ws
+        → BareFun ok k p (fun_at p xs e) (mark Mark.Fun p ∷ mark Mark.OpenRound q ∷ ts) ws
+
   -- E
   pub data ExpressionOf (ok : Leave) : ℕ → Expr → List Terminal → List Terminal → Type 0 where
     -- expr
@@ -403,6 +360,17 @@ mutual
         → SomeExpressions ok k es ts us
         → ExpressionsOf ok k es ts us
 
+  -- Vars
+  pub data VariablesOf (ok : Leave) : List Var → List Terminal → List Terminal → Type 0 where
+    -- A(variable)
+    one_variable : {x : Var} {ts us : List Terminal}
+        → AnnotatedVariable ok x ts us
+        → VariablesOf ok (x ∷ []) ts us
+    -- < list(A(variable)) >
+    value_variables : {xs : List Var} {ts us : List Terminal} (p q : Place)
+        → ListOf Var (AnnotatedVariable ok) xs ts (mark Mark.Greater q ∷ us)
+        → VariablesOf ok xs (mark Mark.Less p ∷ ts) us
+
   -- A(clause), one or more
   pub data ClausesOf (ok : Leave) : ℕ → List Clause → List Terminal → List Terminal → Type 0 where
     last_clause : {k : ℕ} {c : Clause} {ts us : List Terminal}
@@ -434,68 +402,99 @@ mutual
         → ExpressionOf ok (k + 1) e vs ws
         → BareClause ok k (clause_at p fs g e) ts ws
 
-  -- fun, which stands at p
-  pub data BareFun (ok : Leave) : ℕ → Place → Fun → List Terminal → List Terminal → Type 0 where
-    -- fun ( list(A(variable)) ) -> E
-    «fun» : {k : ℕ} {xs : List Var} {e : Expr} {ts us ws : List Terminal} (p q r s : Place)
-        → MayBegin ok k (mark Mark.Fun p ∷ mark Mark.OpenRound q ∷ ts)
-        → ListOf Var (AnnotatedVariable ok) xs ts (mark Mark.CloseRound r ∷ mark Mark.Arrow s ∷ us)
-        → ExpressionOf ok (k + 1) e us ws
-        → BareFun ok k p (fun_at p xs e) (mark Mark.Fun p ∷ mark Mark.OpenRound q ∷ ts) ws
+  -- Pats: the patterns of a clause of level k that begins at p. One pattern begins with the same terminal as its clause, and
+  -- asks for both.
+  pub data ClausePatterns (ok : Leave) : ℕ → Place → List Pattern → List Terminal → List Terminal → Type 0 where
+    -- P
+    one_pattern : {k : ℕ} {f : Pattern} {ts us : List Terminal}
+        → PatternOf ok (k + 1) f ts us
+        → ClausePatterns ok k f.at (f ∷ []) ts us
+    -- < list(P) >
+    value_patterns : {k : ℕ} {fs : List Pattern} {ts us : List Terminal} (p q : Place)
+        → MayBegin ok k (mark Mark.Less p ∷ ts)
+        → PatternsOf ok (k + 1) fs ts (mark Mark.Greater q ∷ us)
+        → ClausePatterns ok k p fs (mark Mark.Less p ∷ ts) us
 
-  -- A(fun)
-  pub data FunOf (ok : Leave) : ℕ → Fun → List Terminal → List Terminal → Type 0 where
-    -- fun
-    fun_bare : {k : ℕ} {p : Place} {f : Fun} {ts us : List Terminal}
-        → BareFun ok k p f ts us
-        → FunOf ok k f ts us
-    -- ( fun -| [..] )
-    fun_annotated : {k : ℕ} {p : Place} {f : Fun} {ts us ws : List Terminal} (o : Place)
-        → BareFun ok k p f ts us
+  -- P
+  pub data PatternOf (ok : Leave) : ℕ → Pattern → List Terminal → List Terminal → Type 0 where
+    -- pat
+    pattern_bare : {k : ℕ} {f : Pattern} {ts us : List Terminal}
+        → BarePattern ok k f ts us
+        → PatternOf ok k f ts us
+    -- ( pat -| [..] )
+    pattern_annotated : {k : ℕ} {f : Pattern} {ts us ws : List Terminal} (o : Place)
+        → BarePattern ok k f ts us
         → Annotation ok us ws
-        → FunOf ok k f (mark Mark.OpenRound o ∷ ts) ws
+        → PatternOf ok k f (mark Mark.OpenRound o ∷ ts) ws
+    -- A(variable) = P
+    pattern_aliased : {k : ℕ} {x : Var} {f : Pattern} {ts us ws : List Terminal} (q : Place)
+        → MayBegin ok k (inner ts)
+        → AnnotatedVariable ok x ts (mark Mark.Equals q ∷ us)
+        → PatternOf ok (k + 1) f us ws
+        → PatternOf ok k (pattern_at x.at (PatNode-F.Alias x f)) ts ws
 
-  -- def
-  pub data DefinitionOf (ok : Leave) : ℕ → FunDef → List Terminal → List Terminal → Type 0 where
-    -- A(fname) = A(fun)
-    definition : {k : ℕ} {f : FunName} {p : Place} {g : Fun} {ts us ws : List Terminal} (q : Place)
-        → Annotated ok (NameOf f p) ts (mark Mark.Equals q ∷ us)
-        → FunOf ok k g us ws
-        → DefinitionOf ok k (definition_at p f g) ts ws
+  -- pat
+  pub data BarePattern (ok : Leave) : ℕ → Pattern → List Terminal → List Terminal → Type 0 where
+    -- variable
+    pattern_variable : {k : ℕ} {us : List Terminal} (x : List ℕ) (p : Place)
+        → MayBegin ok k (token (Kind.Variable x) p ∷ us)
+        → BarePattern ok k (pattern_at p (PatNode-F.Var x)) (token (Kind.Variable x) p ∷ us) us
+    -- integer | character
+    pattern_integer : {k : ℕ} {t : Kind} {n : ℤ} {us : List Terminal} (p : Place)
+        → Integer t n
+        → MayBegin ok k (token t p ∷ us)
+        → BarePattern ok k (pattern_at p (PatNode-F.Int n)) (token t p ∷ us) us
+    -- text
+    pattern_characters : {k : ℕ} {us : List Terminal} (s : List ℕ) (p : Place)
+        → MayBegin ok (text_level k s) (token (Kind.Text s) p ∷ us)
+        → BarePattern ok k (pattern_text p s) (token (Kind.Text s) p ∷ us) us
+    -- atom
+    pattern_atom : {k : ℕ} {us : List Terminal} (a : List ℕ) (p : Place)
+        → MayBegin ok k (token (Kind.Atom a) p ∷ us)
+        → BarePattern ok k (pattern_at p (PatNode-F.Atom a)) (token (Kind.Atom a) p ∷ us) us
+    -- [ ]
+    pattern_empty : {k : ℕ} {us : List Terminal} (p q : Place)
+        → MayBegin ok k (mark Mark.OpenSquare p ∷ mark Mark.CloseSquare q ∷ us)
+        → BarePattern ok k (pattern_nil p) (mark Mark.OpenSquare p ∷ mark Mark.CloseSquare q ∷ us) us
+    -- { list(P) }
+    pattern_tuple : {k : ℕ} {fs : List Pattern} {ts us : List Terminal} (p q : Place)
+        → MayBegin ok k (mark Mark.OpenBrace p ∷ ts)
+        → PatternsOf ok (k + 1) fs ts (mark Mark.CloseBrace q ∷ us)
+        → BarePattern ok k (pattern_at p (PatNode-F.Tuple fs)) (mark Mark.OpenBrace p ∷ ts) us
+    -- [ P , .. , P ]
+    pattern_list : {k : ℕ} {fs : List Pattern} {ts us : List Terminal} (p q : Place)
+        → MayBegin ok k (mark Mark.OpenSquare p ∷ ts)
+        → SomePatterns ok (k + 1) fs ts (mark Mark.CloseSquare q ∷ us)
+        → BarePattern ok k (pattern_at p (PatNode-F.List fs (pattern_nil p))) (mark Mark.OpenSquare p ∷ ts) us
+    -- [ P , .. , P | P ]
+    pattern_list_before : {k : ℕ} {fs : List Pattern} {f : Pattern} {ts us ws : List Terminal} (p q r : Place)
+        → MayBegin ok k (mark Mark.OpenSquare p ∷ ts)
+        → SomePatterns ok (k + 1) fs ts (mark Mark.Bar q ∷ us)
+        → PatternOf ok k f us (mark Mark.CloseSquare r ∷ ws)
+        → BarePattern ok k (pattern_cells p fs f) (mark Mark.OpenSquare p ∷ ts) ws
+    -- A(variable) = P
+    pattern_alias : {k : ℕ} {x : Var} {f : Pattern} {ts us ws : List Terminal} (q : Place)
+        → MayBegin ok k (inner ts)
+        → AnnotatedVariable ok x ts (mark Mark.Equals q ∷ us)
+        → PatternOf ok (k + 1) f us ws
+        → BarePattern ok k (pattern_at x.at (PatNode-F.Alias x f)) ts ws
 
-  -- def, none or more
-  pub data DefinitionsOf (ok : Leave) : ℕ → List FunDef → List Terminal → List Terminal → Type 0 where
-    no_definitions : {k : ℕ} {us : List Terminal} → DefinitionsOf ok k [] us us
-    more_definitions : {k : ℕ} {d : FunDef} {ds : List FunDef} {ts us ws : List Terminal}
-        → DefinitionOf ok k d ts us
-        → DefinitionsOf ok k ds us ws
-        → DefinitionsOf ok k (d ∷ ds) ts ws
+  -- P, .. , P
+  pub data SomePatterns (ok : Leave) : ℕ → List Pattern → List Terminal → List Terminal → Type 0 where
+    last_pattern : {k : ℕ} {f : Pattern} {ts us : List Terminal}
+        → PatternOf ok k f ts us
+        → SomePatterns ok k (f ∷ []) ts us
+    more_patterns : {k : ℕ} {f : Pattern} {fs : List Pattern} {ts us ws : List Terminal} (p : Place)
+        → PatternOf ok k f ts (mark Mark.Comma p ∷ us)
+        → SomePatterns ok k fs us ws
+        → SomePatterns ok k (f ∷ fs) ts ws
 
--- modules
-
--- A(fname) as an export, with its place
-abbrev pub ExportOf : Leave → FunName × Place → List Terminal → List Terminal → Type 0
-ExportOf ok e ts us = Annotated ok (NameOf e.0 e.1) ts us
-
--- attr
-pub data AttributeOf (ok : Leave) : List ℕ × Constant → List Terminal → List Terminal → Type 0 where
-  -- A(atom) = A(constant)
-  attribute : {a : List ℕ} {c : Constant} {ts us ws : List Terminal} (q : Place)
-      → Annotated ok (AtomOf a) ts (mark Mark.Equals q ∷ us)
-      → Annotated ok (ConstantOf ok 1 c) us ws
-      → AttributeOf ok (a, c) ts ws
-
-abbrev pub module_at : List ℕ → List (FunName × Place) → List (List ℕ × Constant) → List FunDef → Module
-module_at a exports attributes defs = record { name = a; exports = exports; attributes = attributes; defs = defs }
-
--- module
-pub data BareModule (ok : Leave) : Module → List Terminal → List Terminal → Type 0 where
-  -- module atom [ list(A(fname)) ] attributes [ list(attr) ] def* end
-  «module» : {exports : List (FunName × Place)} {attributes : List (List ℕ × Constant)} {ds : List FunDef} {ts us vs ws : List Terminal} (a : List ℕ) (p q r s t u v w : Place)
-      → ListOf (FunName × Place) (ExportOf ok) exports ts (mark Mark.CloseSquare s ∷ mark Mark.Attributes t ∷ mark Mark.OpenSquare u ∷ us)
-      → ListOf (List ℕ × Constant) (AttributeOf ok) attributes us (mark Mark.CloseSquare v ∷ vs)
-      → DefinitionsOf ok 1 ds vs (mark Mark.End w ∷ ws)
-      → BareModule ok (module_at a exports attributes ds) (mark Mark.Module p ∷ token (Kind.Atom a) q ∷ mark Mark.OpenSquare r ∷ ts) ws
+  -- list(P)
+  pub data PatternsOf (ok : Leave) : ℕ → List Pattern → List Terminal → List Terminal → Type 0 where
+    no_patterns : {k : ℕ} {us : List Terminal} → PatternsOf ok k [] us us
+    some_patterns : {k : ℕ} {fs : List Pattern} {ts us : List Terminal}
+        → SomePatterns ok k fs ts us
+        → PatternsOf ok k fs ts us
 
 -- A(module)
 abbrev pub ModuleOf : Leave → Module → List Terminal → List Terminal → Type 0

@@ -61,10 +61,11 @@ is_foreign (Kind.Mark Mark.Tilde) = true
 is_foreign _ = false
 
 -- a terminal that begins what Core Erlang has and the profile hasn't: a foreign one where an integer could stand, or a
--- variable as the module or the name of a `call`
+-- variable as the module or the name of a `call`: what stands before it goes on as a module of the profile, and with it too
+-- if variables could stand there
 pub data IsOutside (us : List Terminal) (t : Terminal) : Type 0 where
   foreign_part : is_foreign t.kind ≡ true → Viable any (us ++ token (Kind.Natural 0) t.at ∷ []) → IsOutside us t
-  operand_of_call : Viable any_operand (us ++ t ∷ []) → IsOutside us t
+  operand_of_call : Viable any us → Viable any_operand (us ++ t ∷ []) → IsOutside us t
 
 -- why no module goes on with a terminal, or a part of too high a level begins with it
 abbrev pub Stops : ℕ → List Terminal → Terminal → Fault → Type 0
@@ -86,13 +87,13 @@ pub data RefusedCall (n : ℕ) (z : Place) (ts : List Terminal) : Place → Type
   call_at_terminal : (us : List Terminal) (t : Terminal) (ws : List Terminal) → ts ≡ us ++ t ∷ ws → FineCall n us → ¬ FineCall n (us ++ t ∷ []) → RefusedCall n z ts t.at
   call_at_text_end : FineCall n ts → ((c : Call) → DerivesCall any ts c → ⊥) → RefusedCall n z ts z
 
--- what a list of terminals that ends at z is read as: the one module that it is derived as with no level above n, or why and
--- where it is refused
+-- what a list of terminals that ends at z is read as: a module that it is derived as with no level above n, or why and where
+-- it is refused
 abbrev pub IsAnswer : ℕ → Place → List Terminal → Result Module (Fault × Place) → Type 0
 IsAnswer n z ts (Ok m) = Derives (limit n) ts m
-IsAnswer n z ts (Err (f, p)) = Refused n z ts f p × ((m : Module) → ¬ Derives (limit n) ts m)
+IsAnswer n z ts (Err (f, p)) = Refused n z ts f p
 
 -- the same for a call
 abbrev pub IsCallAnswer : ℕ → Place → List Terminal → Result Call Place → Type 0
 IsCallAnswer n z ts (Ok c) = DerivesCall (limit n) ts c
-IsCallAnswer n z ts (Err p) = RefusedCall n z ts p × ((c : Call) → ¬ DerivesCall (limit n) ts c)
+IsCallAnswer n z ts (Err p) = RefusedCall n z ts p

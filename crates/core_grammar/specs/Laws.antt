@@ -10,7 +10,7 @@ use Rattle.core_ast.specs.Trees.{module_of}
 use Rattle.core_ast.specs.WellFormed.{IsWellFormed}
 use Rattle.core_grammar.specs.Ranges.{terminals_in_range}
 use Rattle.core_grammar.specs.Leave.{Leave}
-use Rattle.core_grammar.specs.Language.{Derives, DerivesCall, IsAnswer, IsCallAnswer}
+use Rattle.core_grammar.specs.Language.{limit, Derives, DerivesCall, Refused, RefusedCall, IsAnswer, IsCallAnswer}
 
 -- a list of terminals is derived as at most one module, places included
 abbrev pub OneModule : Type 0
@@ -19,6 +19,14 @@ OneModule = (ok : Leave) (ts : List Terminal) (m n : Module) → Derives ok ts m
 -- and as at most one call
 abbrev pub OneCall : Type 0
 OneCall = (ok : Leave) (ts : List Terminal) (c d : Call) → DerivesCall ok ts c → DerivesCall ok ts d → c ≡ d
+
+-- what is refused is derived as no module with no level above n
+abbrev pub RefusedDerivesNone : Type 0
+RefusedDerivesNone = (n : ℕ) (z : Place) (ts : List Terminal) (f : Fault) (p : Place) → Refused n z ts f p → (m : Module) → ¬ Derives (limit n) ts m
+
+-- nor as a call, where it is refused as one
+abbrev pub RefusedDerivesNoCall : Type 0
+RefusedDerivesNoCall = (n : ℕ) (z : Place) (ts : List Terminal) (p : Place) → RefusedCall n z ts p → (c : Call) → ¬ DerivesCall (limit n) ts c
 
 -- each list of terminals has an answer
 abbrev pub SomeAnswer : Type 0

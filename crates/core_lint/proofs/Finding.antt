@@ -16,13 +16,13 @@ use Rattle.core_ast.specs.Rules.{unless, repeated, repeated_variables, repeated_
 use Rattle.core_ast.specs.First.{broken_at, noted_all}
 use Rattle.core_ast.proofs.Firsts.{occurs, occurs-append, noted_all-append}
 use Rattle.core_ast.proofs.Spots.{hits, hits-append}
+use Rattle.core_ast.proofs.Words.{bytes_eq-encode}
 use Rattle.core_lint.specs.declared.walk.Walk.{Walk}
 use Rattle.core_lint.specs.Keys.{same_key}
 use Rattle.core_lint.specs.Noted.{noted_unless}
 use Rattle.core_lint.specs.Entries.{Entry, variable_key, function_key, variable_entries, function_entries, entered, repeats}
 use Rattle.core_lint.specs.Walks.{used_variable, used_function, bound, within, within_functions, visited, visited_all, visited_clauses, visited_definitions, visited_exports, visited_module}
 use Rattle.core_lint.proofs.Totals.{total, total-append, name_hits}
-use Rattle.core_lint.proofs.Words.{bytes_eq-encode}
 
 -- the state of the walk where these names are in scope
 abbrev pub state : Names → Option Broken → Walk

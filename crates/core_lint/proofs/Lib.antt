@@ -7,4 +7,3 @@ pub mod Linted
 pub mod Room
 pub mod Tallying
 pub mod Totals
-pub mod Words

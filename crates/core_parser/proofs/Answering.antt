@@ -17,7 +17,7 @@ use Rattle.core_parser.proofs.Meaning.{Holds, done, on, module', bare_atom, want
 use Rattle.core_parser.proofs.Modules.{derived_runs, derived_call_runs}
 use Rattle.core_parser.proofs.Ends.{Foreign, float, receive, hash, tilde, foreign_kind, foreign_stops, operand_free, integer_is_free}
 use Rattle.core_parser.proofs.Refusing as R
-use Rattle.core_parser.proofs.Refusing.{read_as, refused_as, any_loose, any_operand_loose, operand_is_not_any, others_are_any, all_are_any_operand, loose_is_wider, Path, Found, found_none, found_not_allowed, found_end, find}
+use Rattle.core_parser.proofs.Refusing.{any_loose, any_operand_loose, operand_is_not_any, others_are_any, all_are_any_operand, loose_is_wider, Path, Found, found_none, found_not_allowed, found_end, find}
 
 pub holds_module : (ok : Leave) (ts : List Terminal) → Holds ok module_start ts → (m : Module) × Derives ok ts m
 holds_module ok ts (on (module' {m = m} d) done) = (m, d)
@@ -41,6 +41,9 @@ module _ (z : Place) (n : ℕ) where
 
   pub fine : (us : List Terminal) (ss' : Symbols) (vs' : Values) → Path z n module_start [] us ss' vs' → Fine n us
   fine = R.fine_of z n Module Derives Value.Module module_start complete holds_module
+
+  viable : (us : List Terminal) (ss' : Symbols) (vs' : Values) → Path z n module_start [] us ss' vs' → Viable any us
+  viable = R.viable_of z n Module Derives Value.Module module_start complete holds_module
 
   stuck : (ok : Leave) → R.Loose ok → (us : List Terminal) (t : Terminal) (ss' : Symbols) (vs' : Values) (integer : Bool) → Path z n module_start [] us ss' vs' → move ss' vs' t.kind t.at ≡ No integer → Viable ok (us ++ t ∷ []) → ⊥
   stuck ok l = R.stuck z n Module Derives Value.Module module_start complete holds_module ok (loose_is_wider z n ok l)
@@ -69,7 +72,7 @@ module _ (z : Place) (n : ℕ) where
     where
       outside : IsOutside us t → ⊥
       outside (foreign_part h v) = let a : true ≡ false = sym h ∙ f in cc
-      outside (operand_of_call v) = stuck any_operand any_operand_loose us t ss' vs' integer path e v
+      outside (operand_of_call before v) = stuck any_operand any_operand_loose us t ss' vs' integer path e v
 
   -- a foreign terminal that has no move
   foreign : (u : Foreign) → is_foreign (foreign_kind u) ≡ true → (us : List Terminal) (p : Place) (ss' : Symbols) (vs' : Values) (integer : Bool) → Path z n module_start [] us ss' vs' → move ss' vs' (foreign_kind u) p ≡ No integer → Stops n us (token (foreign_kind u) p) (if integer then Fault.NotInProfile else Fault.Syntax)
@@ -77,7 +80,7 @@ module _ (z : Place) (n : ℕ) where
     where
       outside : goes (move ss' vs' (Kind.Natural 0) p) ≡ false → (Viable any_operand (us ++ token (foreign_kind u) p ∷ []) → ⊥) → IsOutside us (token (foreign_kind u) p) → ⊥
       outside g s (foreign_part h v) = integer_stuck us p ss' vs' path g v
-      outside g s (operand_of_call v) = s v
+      outside g s (operand_of_call before v) = s v
 
       by_integer : (integer : Bool) → goes (move ss' vs' (Kind.Natural 0) p) ≡ integer → (Viable any (us ++ token (foreign_kind u) p ∷ []) → ⊥) → (Viable any_operand (us ++ token (foreign_kind u) p ∷ []) → ⊥) → Stops n us (token (foreign_kind u) p) (if integer then Fault.NotInProfile else Fault.Syntax)
       by_integer true g s s2 = (s, foreign_part is (integer_goes_on us p ss' vs' path g))
@@ -102,7 +105,7 @@ module _ (z : Place) (n : ℕ) where
       tested : (b : Bool) → has_operand needs ≡ b → Stops n us t (if b then Fault.NotInProfile else Fault.TooDeep)
       tested true h = (
         (λ v. R.not_allowed z n Module Derives Value.Module module_start complete holds_module any (loose_is_wider z n any any_loose) us t ss' ss2 vs' vs2 needs path e v.0 (operand_is_not_any needs (t ∷ v.0) h) v.1 v.2),
-        operand_of_call (goes_on any_operand any_operand_loose us t ss' ss2 vs' vs2 needs path e (all_are_any_operand needs)),
+        operand_of_call (viable us ss' vs' path) (goes_on any_operand any_operand_loose us t ss' ss2 vs' vs2 needs path e (all_are_any_operand needs)),
       )
       tested false h = (
         goes_on any any_loose us t ss' ss2 vs' vs2 needs path e (λ xs. others_are_any needs xs h),
@@ -129,19 +132,13 @@ module _ (z : Place) (n : ℕ) where
   module_answered ts (Ok vs) h =
       let d = R.read_is_derived z n Module Derives Value.Module module_start complete holds_module (limit n) ts vs h in
       subst (λ (ws : Values). Derives (limit n) ts (to_module (top ws))) (sym d.2) d.1
-  module_answered ts (Err x) h = (
-    refused_of ts x.0 x.1 (find z n ts module_start [] x h),
-    λ m d. let a : refused_as x ≡ read_as (Value.Module m ∷ []) = sym h ∙ complete (limit n) ts m d in cc,
-  )
+  module_answered ts (Err x) h = refused_of ts x.0 x.1 (find z n ts module_start [] x h)
 
   call_answered : (ts : List Terminal) (r : Answer) → run (limit n) z call_start [] ts ≡ r → IsCallAnswer n z ts (call_read r)
   call_answered ts (Ok vs) h =
       let d = R.read_is_derived z n Call DerivesCall Value.Call call_start complete_call holds_call (limit n) ts vs h in
       subst (λ (ws : Values). DerivesCall (limit n) ts (to_call (top ws))) (sym d.2) d.1
-  call_answered ts (Err x) h = (
-    refused_call_of ts x.0 x.1 (find z n ts call_start [] x h),
-    λ c d. let a : refused_as x ≡ read_as (Value.Call c ∷ []) = sym h ∙ complete_call (limit n) ts c d in cc,
-  )
+  call_answered ts (Err x) h = refused_call_of ts x.0 x.1 (find z n ts call_start [] x h)
 
 -- the machine reads modules, and calls
 pub reads_modules : (n : ℕ) (z : Place) (ts : List Terminal) → IsAnswer n z ts (module_read (run (limit n) z module_start [] ts))

@@ -18,7 +18,7 @@ use Rattle.core_parser.specs.declared.symbol.Part.{Part}
 use Rattle.core_parser.specs.declared.symbol.Symbol.{Symbol}
 use Rattle.core_parser.specs.declared.symbol.Term.{Term}
 use Rattle.core_parser.specs.Values.{Values}
-use Rattle.core_parser.specs.Machine.{Symbols, Move, Go, No, move, all_ok, code, closes, also, deeper, annotation, annotation_list, guarded, when_guarded, one_when_guarded, alias_of, arguments, argument_pushed, defined}
+use Rattle.core_parser.specs.Machine.{Symbols, Move, Go, No, move, all_ok, code, closes, deeper, annotation, annotation_list, alias_of, arguments}
 use Rattle.core_parser.specs.Machine as M
 use Rattle.core_parser.proofs.Steps.{closing}
 use Rattle.core_parser.proofs.Meaning.{wants, make, bare_module, bare_name, bare_atom, bare_operand, bare_variable, bare_constant, bare_fun, bare_expression, module', name, atom, operand, variable, constant, fun, expression, no_arity, slash, arity, item_variable, item_export, item_attribute, item_expression, item_pattern, item_constant, first_none, first_some, rest_none, rest_more, cells_none, cells_some, cells_end, cells_more, cells_tail, tail, expression_tail_inside, pattern_tail_inside, tail_first, variables, pattern', pattern_inside, pattern_inside_variable, alias_name, no_alias, equals, clause, clauses_none, clauses_some, definitions, module_end, Holds, on, of_variable, expressions_of, all_expressions, patterns_of, all_patterns, constants_of, all_constants, variables_of, all_variables, exports_of, all_exports, attributes_of, all_attributes, expression_list, found_expression, pattern_list, found_pattern, constant_list, found_constant, annotation_list_of, annotation_of, held_annotation, arguments_of, HeldArguments, held_arguments}

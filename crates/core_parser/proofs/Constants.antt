@@ -21,7 +21,7 @@ use Rattle.core_parser.specs.declared.value.Value.{Value}
 use Rattle.core_parser.specs.Values.{Values}
 use Rattle.core_parser.specs.Machine.{Symbols, move, run, annotation, annotation_list}
 use Rattle.core_parser.proofs.Steps as Steps
-use Rattle.core_parser.proofs.Steps.{allowed, begins, calm, filled, opens, opens_bare, opens_other, same, makes, made_as}
+use Rattle.core_parser.proofs.Steps.{allowed, begins, calm, filled, opens, opens_bare, opens_other, same, makes}
 use Rattle.core_parser.proofs.Elements as Elements
 use Rattle.core_parser.proofs.Cells as Cells
 

@@ -24,7 +24,7 @@ use Rattle.core_parser.specs.declared.value.Value.{Value}
 use Rattle.core_parser.specs.Values.{Values, literal}
 use Rattle.core_parser.specs.Machine.{Symbols, Move, move, run, after_atom, definitions, defined, annotation, arguments, expression, guarded}
 use Rattle.core_parser.proofs.Steps as Steps
-use Rattle.core_parser.proofs.Steps.{allowed, begins, calm, filled, opens, opens_bare, opens_other, bare_opens, opens_calm, same, makes, made_as}
+use Rattle.core_parser.proofs.Steps.{allowed, begins, calm, opens, opens_bare, opens_other, bare_opens, opens_calm, same, makes}
 use Rattle.core_parser.proofs.Elements as Elements
 use Rattle.core_parser.proofs.Cells as Cells
 use Rattle.core_parser.proofs.Constants.{bare_is_bare, annotation_runs, BareRuns, annotated_runs, Anything, atom_runs, variables_run, variable_list_runs}

@@ -8,7 +8,8 @@ use Rattle.core_ast.specs.declared.tree.Module.{Module}
 use Rattle.core_grammar.specs.declared.fault.Fault.{Fault}
 use Rattle.core_grammar.specs.declared.terminal.Terminal.{Terminal}
 use Rattle.core_grammar.specs.Leave.{Need, part, variable_operand, argument}
-use Rattle.core_grammar.specs.Language.{argument_limit, Derives, DerivesCall, limit, any, within, Viable, Fine, FineCall, Stops, Refused, at_terminal, at_text_end, RefusedCall, call_at_terminal, call_at_text_end, IsAnswer, IsCallAnswer}
+use Rattle.core_grammar.specs.Language.{argument_limit, Derives, DerivesCall, limit, any, within, Viable, Fine, FineCall, Stops, Refused, at_terminal, at_text_end, RefusedCall, call_at_terminal, call_at_text_end}
+use Rattle.core_grammar.specs.Laws.{RefusedDerivesNone, RefusedDerivesNoCall, OneAnswer, OneCallAnswer}
 use Rattle.core_parser.specs.declared.value.Value.{Value}
 use Rattle.core_parser.specs.Values.{Values}
 use Rattle.core_parser.specs.Machine.{Symbols, Move, Go, No, move, gone, why, why_not, all_ok, run, module_start, call_start, call_read}
@@ -16,7 +17,7 @@ use Rattle.core_parser.proofs.Meaning.{Holds}
 use Rattle.core_parser.proofs.Backs.{and_parts}
 use Rattle.core_parser.proofs.Modules.{one_module, one_call}
 use Rattle.core_parser.proofs.Refusing as R
-use Rattle.core_parser.proofs.Refusing.{refused_as, any_loose, others_are_any, loose_is_wider, Wider, Path, no_path, longer_path}
+use Rattle.core_parser.proofs.Refusing.{read_as, refused_as, any_loose, loose_is_wider, Wider, Path, no_path, longer_path}
 use Rattle.core_parser.proofs.Answering as A
 use Rattle.core_parser.proofs.Answering.{holds_module, holds_call}
 
@@ -158,14 +159,25 @@ same_refusal h = cc
 same_place : {p q : Place} → no_call p ≡ no_call q → p ≡ q
 same_place h = cc
 
-pub one_answer : (n : ℕ) (z : Place) (ts : List Terminal) (r s : Result Module (Fault × Place)) → IsAnswer n z ts r → IsAnswer n z ts s → r ≡ s
-one_answer n z ts (Ok m) (Ok o) a b = ap ok_module (one_module (limit n) ts m o a b)
-one_answer n z ts (Ok m) (Err (f, p)) a b = absurd (b.1 m a)
-one_answer n z ts (Err (f, p)) (Ok o) a b = absurd (a.1 o b)
-one_answer n z ts (Err (f, p)) (Err (g, q)) a b = ap no_module (same_refusal (sym (refused_runs z n ts f p a.0) ∙ refused_runs z n ts g q b.0))
+-- what is refused is no module, and no call: the machine would read it, too
+pub refused_derives_none : RefusedDerivesNone
+refused_derives_none n z ts f p refused m d =
+    let a : refused_as (f, p) ≡ read_as (Value.Module m ∷ []) = sym (refused_runs z n ts f p refused) ∙ A.complete z n (limit n) ts m d in
+    cc
 
-pub one_call_answer : (n : ℕ) (z : Place) (ts : List Terminal) (r s : Result Call Place) → IsCallAnswer n z ts r → IsCallAnswer n z ts s → r ≡ s
+pub refused_derives_no_call : RefusedDerivesNoCall
+refused_derives_no_call n z ts p refused c d =
+    let a : no_call p ≡ ok_call c = sym (refused_call_runs z n ts p refused) ∙ ap call_read (A.complete_call z n (limit n) ts c d) in
+    cc
+
+pub one_answer : OneAnswer
+one_answer n z ts (Ok m) (Ok o) a b = ap ok_module (one_module (limit n) ts m o a b)
+one_answer n z ts (Ok m) (Err (f, p)) a b = absurd (refused_derives_none n z ts f p b m a)
+one_answer n z ts (Err (f, p)) (Ok o) a b = absurd (refused_derives_none n z ts f p a o b)
+one_answer n z ts (Err (f, p)) (Err (g, q)) a b = ap no_module (same_refusal (sym (refused_runs z n ts f p a) ∙ refused_runs z n ts g q b))
+
+pub one_call_answer : OneCallAnswer
 one_call_answer n z ts (Ok c) (Ok d) a b = ap ok_call (one_call (limit n) ts c d a b)
-one_call_answer n z ts (Ok c) (Err p) a b = absurd (b.1 c a)
-one_call_answer n z ts (Err p) (Ok d) a b = absurd (a.1 d b)
-one_call_answer n z ts (Err p) (Err q) a b = ap no_call (same_place (sym (refused_call_runs z n ts p a.0) ∙ refused_call_runs z n ts q b.0))
+one_call_answer n z ts (Ok c) (Err p) a b = absurd (refused_derives_no_call n z ts p b c a)
+one_call_answer n z ts (Err p) (Ok d) a b = absurd (refused_derives_no_call n z ts p a d b)
+one_call_answer n z ts (Err p) (Err q) a b = ap no_call (same_place (sym (refused_call_runs z n ts p a) ∙ refused_call_runs z n ts q b))

@@ -20,7 +20,7 @@ use Rattle.core_parser.specs.declared.value.Value.{Value}
 use Rattle.core_parser.specs.Values.{Values, variable_pattern}
 use Rattle.core_parser.specs.Machine.{Symbols, Move, move, run, after_variable, annotation, alias_of, guarded, when_guarded, one_when_guarded}
 use Rattle.core_parser.proofs.Steps as Steps
-use Rattle.core_parser.proofs.Steps.{allowed, begins, calm, filled, opens, opens_bare, opens_plain, opens_other, plain_is_bare, bare_opens, same, makes, made_as}
+use Rattle.core_parser.proofs.Steps.{allowed, begins, calm, opens, opens_plain, plain_is_bare, bare_opens, same, makes}
 use Rattle.core_parser.proofs.Elements as Elements
 use Rattle.core_parser.proofs.Cells as Cells
 use Rattle.core_parser.proofs.Constants.{annotation_list_runs, annotation_runs}

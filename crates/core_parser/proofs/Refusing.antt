@@ -177,6 +177,14 @@ module _ (z : Place) where
           let d = holds ok (us ++ ws) (p.back ok (within_is_wider (length ws)) ws h) in
           (ws, d.0, d.1)
 
+      -- some text goes on, whatever the levels
+      pub viable_of : (us : List Terminal) (ss' : Symbols) (vs' : Values) → Path start [] us ss' vs' → (ws : List Terminal) × (x : X) × D any (us ++ ws) x
+      viable_of us ss' vs' p =
+          let ws = ending z ss' in
+          let h : Holds any ss' ws = ends z any (length ws) (λ k xs le. refl) (λ i xs le. refl) ss' (omega arith) in
+          let d = holds any (us ++ ws) (p.back any (loose_is_wider any any_loose) ws h) in
+          (ws, d.0, d.1)
+
       -- some text goes on with a terminal that the machine takes
       pub goes_on : (ok : Leave) → Loose ok → (us : List Terminal) (t : Terminal) (ss' ss2 : Symbols) (vs' vs2 : Values) (needs : List Need) → Path start [] us ss' vs' → move ss' vs' t.kind t.at ≡ Go ss2 vs2 needs → ((xs : List Terminal) → all_ok ok needs xs ≡ true) → (ws : List Terminal) × (x : X) × D ok ((us ++ t ∷ []) ++ ws) x
       goes_on ok l us t ss' ss2 vs' vs2 needs path e all =

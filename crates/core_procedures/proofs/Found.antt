@@ -1,5 +1,5 @@
 -- The functions that were found.
-use Rattle.std.proofs.Common.{◌≡◌, ℕ, zero, suc, ◌+◌, List, [], ◌∷◌, ◌++◌, map, length, refl, sym, ap, ◌∙◌, append_assoc, append-nil, arith, Bor}
+use Rattle.std.proofs.Common.{◌≡◌, ℕ, suc, ◌+◌, List, [], ◌∷◌, ◌++◌, map, length, refl, sym, ap, ◌∙◌, append_assoc, append-nil, arith, Bor}
 use Rattle.std.proofs.lemmas.List.{map-append, length-map}
 use Rattle.core_ast.specs.Trees.{expression_of, clause_of, clauses, definition_of, definitions, pattern_of, patterns, Function}
 use Rattle.core_ast.specs.declared.tree.Clause.{Clause}

@@ -9,7 +9,7 @@ use Rattle.core_reader.specs.Language.{Reads, ReadsNone, IsRefusedAs, ReadsCall,
 -- what a text is read as: a module, or why and where it is refused
 abbrev pub IsAnswer : List ℕ → Result Module ReadRefusal → Type 0
 IsAnswer s (Ok m) = Reads s m
-IsAnswer s (Err e) = IsRefusedAs s e × ReadsNone s
+IsAnswer s (Err e) = IsRefusedAs s e
 
 -- each text has an answer
 abbrev pub SomeAnswer : Type 0
@@ -19,13 +19,20 @@ SomeAnswer = (s : List ℕ) → (r : Result Module ReadRefusal) × IsAnswer s r
 abbrev pub OneAnswer : Type 0
 OneAnswer = (s : List ℕ) (a b : Result Module ReadRefusal) → IsAnswer s a → IsAnswer s b → a ≡ b
 
+-- what is refused reads as no module
+abbrev pub RefusedReadsNone : Type 0
+RefusedReadsNone = (s : List ℕ) (e : ReadRefusal) → IsRefusedAs s e → ReadsNone s
+
 -- the same of calls: a call, or where the text is none
 abbrev pub IsCallAnswer : List ℕ → Result Call Place → Type 0
 IsCallAnswer s (Ok c) = ReadsCall s c
-IsCallAnswer s (Err p) = IsNoCall s p × ((c : Call) → ¬ ReadsCall s c)
+IsCallAnswer s (Err p) = IsNoCall s p
 
 abbrev pub SomeCallAnswer : Type 0
 SomeCallAnswer = (s : List ℕ) → (r : Result Call Place) × IsCallAnswer s r
 
 abbrev pub OneCallAnswer : Type 0
 OneCallAnswer = (s : List ℕ) (a b : Result Call Place) → IsCallAnswer s a → IsCallAnswer s b → a ≡ b
+
+abbrev pub RefusedReadsNoCall : Type 0
+RefusedReadsNoCall = (s : List ℕ) (p : Place) → IsNoCall s p → (c : Call) → ¬ ReadsCall s c

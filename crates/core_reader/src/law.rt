@@ -1,16 +1,18 @@
 // What holds of all texts.
 
-ghost use Rattle.core_reader.specs.Laws.{SomeAnswer, OneAnswer, SomeCallAnswer, OneCallAnswer};
+ghost use Rattle.core_reader.specs.Laws.{SomeAnswer, OneAnswer, RefusedReadsNone, SomeCallAnswer, OneCallAnswer, RefusedReadsNoCall};
 
 /// A text reads as one module, places included, or it is refused, and where it is refused it reads as no module, the refusal
 /// and its place are one.
 pub fn one_answer()
     ensures some { SomeAnswer }
     ensures one { OneAnswer }
+    ensures none { RefusedReadsNone }
 {}
 
-/// A text reads as one call or is none, at one place.
+/// A text reads as one call or is none, at one place, and where it is none it reads as no call.
 pub fn one_call_answer()
     ensures some { SomeCallAnswer }
     ensures one { OneCallAnswer }
+    ensures none { RefusedReadsNoCall }
 {}

@@ -2,7 +2,6 @@
 pub mod Levels
 pub mod Values
 pub mod Parts
-pub mod Words
 pub mod Forms
 pub mod Modules
 pub mod Unique

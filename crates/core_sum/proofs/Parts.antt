@@ -1,42 +1,16 @@
 -- The sum that an expression is made as, by what the expression is.
 use Rattle.std.proofs.Common.{◌≡◌, ◌≢◌, ◌<◌, ◌≤◌, List, [], ◌∷◌, map, length, get_or, drop, Option, Some, None, Ok, Err, true, refl, sym, ap, ◌∙◌, arith}
-use Rattle.hipe_terms.specs.declared.place.Place.{Place}
 use Rattle.core_ast.specs.declared.tree.Expr.{Expr}
 use Rattle.std.specs.Prelude.{if◌then◌else◌}
 use Rattle.core_ast.specs.declared.tree.Fun.{out-Fun}
 use Rattle.core_ast.specs.declared.tree.FunDef.{FunDef, out-FunDef}
-use Rattle.core_ast.specs.declared.tree.Node.{out-Node}
-use Rattle.core_ast.specs.declared.tree.Node.TheOpen.{Node-F}
 use Rattle.core_ast.specs.Trees.{Expression, no_definition, expression_of, expressions, definition_of, definitions}
 use Rattle.core_ast.specs.Names.{is_named}
 use Rattle.core_ast.specs.Places.{place_of}
 use Rattle.core_sum.specs.declared.sum.Sum.{Sum}
 use Rattle.core_sum.specs.Form.{main}
 use Rattle.core_sum.specs.Made.{added, sum_in, sums_in, alone, sum_of_definitions}
-use Rattle.core_ast.proofs.Levels.{Level, level, levels, expression_is, function_is, definition_is}
-
-place_level : (l : Level) (p : Place) → place_of (level l p) ≡ p
-place_level (Node-F.Int n) p = refl
-place_level (Node-F.Atom a) p = refl
-place_level Node-F.Nil p = refl
-place_level (Node-F.Var x) p = refl
-place_level (Node-F.Name f) p = refl
-place_level (Node-F.Tuple es) p = refl
-place_level (Node-F.List es tail) p = refl
-place_level (Node-F.Values es) p = refl
-place_level (Node-F.Let xs values body) p = refl
-place_level (Node-F.Case values cs) p = refl
-place_level (Node-F.Lambda f) p = refl
-place_level (Node-F.Letrec ds body) p = refl
-place_level (Node-F.Apply f args) p = refl
-place_level (Node-F.Call m f args) p = refl
-place_level (Node-F.Primop f args) p = refl
-place_level (Node-F.Try part xs body ys handler) p = refl
-place_level (Node-F.Do first second) p = refl
-place_level (Node-F.Catch part) p = refl
-
-pub place_is : (e : Expr) → place_of (expression_of e) ≡ e.at
-place_is e = ap place_of (expression_is e) ∙ place_level (out-Node e.node) e.at
+use Rattle.core_ast.proofs.Levels.{levels, place_is, function_is, definition_is}
 
 -- no other number of parts than two is a sum
 pub added_other : (es : List Expr) → length es ≢ 2 → added (sums_in (expressions (map expression_of es))) ≡ None

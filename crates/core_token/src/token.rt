@@ -1,6 +1,6 @@
 // Tokens, lists of tokens, and faults of tokens.
 
-ghost use Rattle.std.specs.Prelude.{◌≡◌, [], ◌∷◌, ◌++◌, OnOk};
+ghost use Rattle.std.specs.Prelude.{◌≡◌, [], ◌∷◌, ◌++◌, OnErr, OnOk};
 
 use hipe_terms::Place;
 use std::alloc::{AllocError, Global};
@@ -65,9 +65,10 @@ impl Tokens {
         }
     }
 
-    /// Puts a token at the end; the error is that memory ran out.
+    /// Puts a token at the end. The error is that memory ran out; the list is then as before.
     pub fn push(&mut self, token: Token) -> Result<(), AllocError>
-        ensures { OnOk result (self.new ≡ self.old ++ token ∷ []) }
+        ensures ok { OnOk result (self.new ≡ self.old ++ token ∷ []) }
+        ensures err { OnErr result (self.new ≡ self.old) }
     {
         self.tokens.push(token)?;
         Ok(())

@@ -41,7 +41,15 @@ pub struct Atoms {
 
 impl Atoms {
     /// These atoms. An error where there is no memory for them.
-    pub fn new(alloc: Global) -> Result<Atoms, AllocError> {
+    pub fn new(alloc: Global) -> Result<Atoms, AllocError>
+        ensures booleans { IfOk result (λ a. (a.yes ≡ codes "true") × (a.no ≡ codes "false")) }
+        ensures classes { IfOk result (λ a. (a.error ≡ codes "error") × (a.exit ≡ codes "exit") × (a.throw ≡ codes "throw")) }
+        ensures caught { IfOk result (λ a. a.caught_exit ≡ codes "EXIT") }
+        ensures arguments { IfOk result (λ a. (a.badarith ≡ codes "badarith") × (a.badarg ≡ codes "badarg")) }
+        ensures limit { IfOk result (λ a. a.system_limit ≡ codes "system_limit") }
+        ensures functions { IfOk result (λ a. (a.undef ≡ codes "undef") × (a.badfun ≡ codes "badfun") × (a.badarity ≡ codes "badarity")) }
+        ensures clauses { IfOk result (λ a. (a.case_clause ≡ codes "case_clause") × (a.function_clause ≡ codes "function_clause")) }
+    {
         Ok(Atoms {
             yes: atom(alloc, "true")?,
             no: atom(alloc, "false")?,

@@ -25,9 +25,10 @@ use Rattle.core_reader.specs.declared.refusal.ReadRefusal.{ReadRefusal}
 use Rattle.core_reader.specs.Language.{Reads}
 use Rattle.core_reader.specs.Laws.{IsAnswer, IsCallAnswer}
 use Rattle.core_reader.proofs.Answering.{some_answer as some_reading, some_call_answer}
+use Rattle.core_reader.proofs.Unique.{refused_reads_none, refused_reads_no_call}
 use Rattle.eval_source.specs.declared.limits.TheConstants.{TEXT_LIMIT}
 use Rattle.eval_source.specs.declared.stop.Stop.{Stop}
-use Rattle.eval_source.specs.Answers.{Answer, refused, ran, AnswerTo, too_long, not_read, not_good, ended, Expected, bad_words, no_call, of_call}
+use Rattle.eval_source.specs.Answers.{Answer, refused, AnswerTo, too_long, not_read, not_good, ended, Expected, bad_words, no_call, of_call}
 use Rattle.eval_source.specs.Texts.{Writes, ending_line}
 use Rattle.eval_source.specs.Words.{Command, command_of}
 
@@ -71,7 +72,7 @@ module _ (call : Call) (fuel : ℕ) (bytes : List ℕ) where
   some_answer = within (leb_tells (length bytes) TEXT_LIMIT) where
     read : length bytes ≤ TEXT_LIMIT → (r : Result Module ReadRefusal) → IsAnswer bytes r → (a : Answer) × AnswerTo call fuel bytes a
     read short (Ok m) reads = of_module m short reads
-    read short (Err why) is = (_, not_read why short is.1 is.0)
+    read short (Err why) is = (_, not_read why short (refused_reads_none bytes why is) is)
 
     within : ((leb (length bytes) TEXT_LIMIT ≡ true) × (length bytes ≤ TEXT_LIMIT)) ⊎ ((leb (length bytes) TEXT_LIMIT ≡ false) × (TEXT_LIMIT < length bytes))
         → (a : Answer) × AnswerTo call fuel bytes a
@@ -82,7 +83,7 @@ pub some : (words : List (List ℕ)) (bytes : List ℕ) → (a : Answer) × Expe
 some words bytes = go (command_of words) refl where
   called : (c : Command) → command_of words ≡ Some c → (r : Result Call Place) → IsCallAnswer c.call r → (a : Answer) × Expected words bytes a
   called c is (Ok call) reads = let a = some_answer call c.fuel bytes in (a.0, of_call c call is reads a.1)
-  called c is (Err p) at = (refused (Stop.Call p), no_call c p is at.1 at.0)
+  called c is (Err p) at = (refused (Stop.Call p), no_call c p is (refused_reads_no_call c.call p at) at)
 
   go : (o : Option Command) → command_of words ≡ o → (a : Answer) × Expected words bytes a
   go None is = (refused Stop.Words, bad_words is)

@@ -16,7 +16,7 @@ use Rattle.core_reader.specs.declared.refusal.CallRefusal.{CallRefusal}
 use Rattle.core_reader.specs.Language.{Reads, ReadsCall, AnswersCall, OnlyCall}
 use Rattle.eval_source.specs.declared.limits.TheConstants.{TEXT_LIMIT}
 use Rattle.eval_source.specs.declared.stop.Stop.{Stop}
-use Rattle.eval_source.specs.Answers.{Answer, refused, ran, AnswerTo, too_long, ended, Expected, bad_words, no_call, of_call, RunWrites}
+use Rattle.eval_source.specs.Answers.{ran, too_long, ended, Expected, bad_words, no_call, of_call, RunWrites}
 use Rattle.eval_source.specs.Answers as A
 use Rattle.eval_source.specs.Outcome.{Came, wrote, wrote_front, refused_words, refused_text, no_memory}
 use Rattle.eval_source.specs.Outcome as O

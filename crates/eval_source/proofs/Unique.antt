@@ -1,5 +1,5 @@
 -- Words and bytes have one answer alone.
-use Rattle.std.proofs.Common.{◌≡◌, ℕ, ◌<◌, ◌≤◌, List, length, Option, None, Some, Contains, refl, sym, ap, ◌∙◌, subst, arith}
+use Rattle.std.proofs.Common.{◌≡◌, ℕ, ◌<◌, ◌≤◌, List, length, Option, None, Some, refl, sym, ap, ◌∙◌, subst, arith}
 use Rattle.hipe_terms.specs.declared.constant.Call.{Call}
 use Rattle.hipe_terms.specs.declared.place.Place.{Place}
 use Rattle.hipe_terms.specs.Shown.{Names}
@@ -7,7 +7,7 @@ use Rattle.core_ast.specs.declared.tree.Module.{Module}
 use Rattle.core_ast.specs.declared.rule.Rule.{Rule}
 use Rattle.core_ast.specs.Trees.{module_of}
 use Rattle.core_ast.specs.Good.{IsGood, IsFirstBroken}
-use Rattle.core_ast.proofs.Ordered.{one_first}
+use Rattle.core_ast.proofs.Ordered.{broken_is_bad, one_first}
 use Rattle.core_meaning.specs.Meaning.{Run}
 use Rattle.core_reader.specs.declared.refusal.ReadRefusal.{ReadRefusal}
 use Rattle.core_reader.specs.Language.{Reads, ReadsNone, IsRefusedAs, ReadsCall, IsNoCall}
@@ -17,7 +17,7 @@ use Rattle.eval_source.specs.declared.stop.Reason.{Reason}
 use Rattle.eval_source.specs.declared.stop.Stop.{Stop}
 use Rattle.eval_source.specs.Answers.{Answer, refused, ran, AnswerTo, too_long, not_read, not_good, ended, Expected, bad_words, no_call, of_call, RunWrites}
 use Rattle.eval_source.specs.Stops.{stop_of_reading}
-use Rattle.eval_source.specs.Texts.{Writes, run_text, ending_status}
+use Rattle.eval_source.specs.Texts.{Writes, run_text}
 use Rattle.eval_source.specs.Words.{Command, command_of}
 
 -- what a run writes is one text with one status
@@ -37,9 +37,7 @@ module _ (call : Call) (fuel : ℕ) (bytes : List ℕ) where
   -- a module with a broken rule isn't good
   not_bad : (m n : Module) (rule : Rule) (p : Place) → Reads bytes m → IsGood (module_of m) → Reads bytes n → IsFirstBroken (module_of n) rule p → ⊥
   not_bad m n rule p reads good others first =
-      let none : IsGood (module_of n) = subst IsGood (sym (same m n reads others)) good in
-      let c = subst (λ ps. Contains ps p) (none rule) first.broken in
-      absurd (omega (arith, c.1))
+      broken_is_bad (module_of n) rule p first (subst IsGood (sym (same m n reads others)) good)
 
   long_one : (b : Answer) → TEXT_LIMIT < length bytes → AnswerTo call fuel bytes b → refused Stop.TooLong ≡ b
   long_one _ longer (too_long l) = refl
@@ -50,7 +48,7 @@ module _ (call : Call) (fuel : ℕ) (bytes : List ℕ) where
   unread_one : (why : ReadRefusal) (b : Answer) → length bytes ≤ TEXT_LIMIT → ReadsNone bytes → IsRefusedAs bytes why → AnswerTo call fuel bytes b
       → refused (stop_of_reading why) ≡ b
   unread_one why _ short none is (too_long longer) = absurd (omega (arith, longer, short))
-  unread_one why _ short none is (not_read other _ _ is2) = ap (λ r. refused (stop_of_reading r)) (one_refusal bytes none why other is is2)
+  unread_one why _ short none is (not_read other _ _ is2) = ap (λ r. refused (stop_of_reading r)) (one_refusal bytes why other is is2)
   unread_one why _ short none is (not_good m rule p _ reads first) = absurd (none m reads)
   unread_one why _ short none is (ended m text status _ reads good writes) = absurd (none m reads)
 
@@ -90,7 +88,7 @@ one words bytes _ _ (bad_words bad) (no_call c p is none at) = none_or_some word
 one words bytes _ b (bad_words bad) (of_call c call is reads x) = none_or_some words c bad is
 one words bytes _ _ (no_call c p is none at) (bad_words bad) = none_or_some words c bad is
 one words bytes _ _ (no_call c p is none at) (no_call d q is2 none2 at2) =
-    ap (λ x. refused (Stop.Call x)) (one_place_of_no_call c.call none p q at (subst (λ k. IsNoCall k.call q) (same_command words d c is2 is) at2))
+    ap (λ x. refused (Stop.Call x)) (one_place_of_no_call c.call p q at (subst (λ k. IsNoCall k.call q) (same_command words d c is2 is) at2))
 one words bytes _ b (no_call c p is none at) (of_call d call is2 reads x) = absurd (none call (subst (λ k. ReadsCall k.call call) (same_command words d c is2 is) reads))
 one words bytes a _ (of_call c call is reads x) (bad_words bad) = none_or_some words c bad is
 one words bytes a _ (of_call c call is reads x) (no_call d q is2 none at) = absurd (none call (subst (λ k. ReadsCall k.call call) (same_command words c d is is2) reads))

@@ -14,6 +14,7 @@ use Rattle.core_reader.specs.declared.refusal.ReadRefusal.{ReadRefusal}
 use Rattle.core_reader.specs.Language.{Reads}
 use Rattle.core_reader.specs.Laws.{IsAnswer}
 use Rattle.core_reader.proofs.Answering.{some_answer as some_reading}
+use Rattle.core_reader.proofs.Unique.{refused_reads_none}
 use Rattle.core_sum.specs.declared.sum.Sum.{Sum}
 use Rattle.core_sum.specs.declared.sum.SumRefusal.{SumRefusal}
 use Rattle.core_sum.specs.Made.{has_main, sum_of_definitions}
@@ -101,7 +102,7 @@ module _ (bytes : List ℕ) where
   some_of mode = within (leb_tells (length bytes) TEXT_LIMIT) where
     read : length bytes ≤ TEXT_LIMIT → (r : Result Module ReadRefusal) → IsAnswer bytes r → Answered mode
     read short (Ok m) reads = of_module mode m short reads
-    read short (Err why) is = (_, not_read why short is.1 is.0)
+    read short (Err why) is = (_, not_read why short (refused_reads_none bytes why is) is)
 
     within : ((leb (length bytes) TEXT_LIMIT ≡ true) × (length bytes ≤ TEXT_LIMIT)) ⊎ ((leb (length bytes) TEXT_LIMIT ≡ false) × (TEXT_LIMIT < length bytes)) → Answered mode
     within (inl h) = let r = some_reading bytes in read h.1 r.0 r.1

@@ -1,12 +1,11 @@
 -- Which texts a mode takes and which it refuses, by its answers.
-use Rattle.std.proofs.Common.{◌≡◌, ◌⊎◌, inl, inr, ℕ, ◌<◌, List, length, Contains, refl, sym, ap, ◌∙◌, subst, arith}
+use Rattle.std.proofs.Common.{◌≡◌, ◌⊎◌, inl, inr, ℕ, ◌<◌, List, length, refl, sym, ap, ◌∙◌, subst, arith}
 use Rattle.hipe_terms.specs.declared.place.Place.{Place}
 use Rattle.core_token.specs.declared.token.TokenKind.{TokenKind}
 use Rattle.core_ast.specs.declared.tree.Module.{Module}
-use Rattle.core_ast.specs.declared.rule.Rule.{Rule}
-use Rattle.core_ast.specs.Trees as T
 use Rattle.core_ast.specs.Trees.{module_of}
-use Rattle.core_ast.specs.Good.{IsGood, IsFirstBroken}
+use Rattle.core_ast.specs.Good.{IsGood}
+use Rattle.core_ast.proofs.Ordered.{broken_is_bad}
 use Rattle.core_grammar.specs.declared.fault.Fault.{Fault}
 use Rattle.core_reader.specs.declared.refusal.ReadRefusal.{ReadRefusal}
 use Rattle.core_reader.specs.Language.{Reads, token_refusal, fault_refusal, IsRefusedAs, no_tokens, no_module}
@@ -41,9 +40,6 @@ reader_status s _ (no_tokens k p h) = token_status k p
 reader_status s _ (no_module ts f p t r) = fault_status f p
 
 -- ---- what is taken and what is refused
-
-pub broken_is_bad : (m : T.Module) (rule : Rule) (p : Place) → IsFirstBroken m rule p → IsGood m → ⊥
-broken_is_bad m rule p first g = let c = subst (λ ps. Contains ps p) (g rule) first.broken in absurd (omega (arith, c.1))
 
 same_module : (bytes : List ℕ) (m n : Module) → Reads bytes m → Reads bytes n → module_of n ≡ module_of m
 same_module bytes m n a b = ap module_of (one_reading bytes n m b a)

@@ -5,7 +5,7 @@ use Rattle.core_ast.specs.declared.tree.Module.{Module}
 use Rattle.core_ast.specs.declared.rule.Rule.{Rule}
 use Rattle.core_ast.specs.Trees.{module_of}
 use Rattle.core_ast.specs.Good.{IsGood, IsFirstBroken}
-use Rattle.core_ast.proofs.Ordered.{one_first as one_rule_is_first}
+use Rattle.core_ast.proofs.Ordered.{broken_is_bad, one_first as one_rule_is_first}
 use Rattle.core_reader.specs.declared.refusal.ReadRefusal.{ReadRefusal}
 use Rattle.core_reader.specs.Language.{Reads, ReadsNone, IsRefusedAs}
 use Rattle.core_reader.proofs.Unique.{one_reading, one_refusal}
@@ -23,7 +23,7 @@ use Rattle.hipe_top.specs.Answers.{Answer, refused, answered, not_yet, AnswerOf,
 use Rattle.hipe_top.specs.Stops.{stop_of_reading}
 use Rattle.hipe_top.specs.Texts.{IsGoodText, BeginsAt}
 use Rattle.hipe_top.proofs.Placing.{one_beginning}
-use Rattle.hipe_top.proofs.Taking.{broken_is_bad, one_mode}
+use Rattle.hipe_top.proofs.Taking.{one_mode}
 
 module _ (bytes : List ℕ) where
   same : (m n : Module) → Reads bytes m → Reads bytes n → module_of n ≡ module_of m
@@ -47,7 +47,7 @@ module _ (bytes : List ℕ) where
 
   unread_one : (mode : Mode) (why : ReadRefusal) (b : Answer) → length bytes ≤ TEXT_LIMIT → ReadsNone bytes → IsRefusedAs bytes why → AnswerOf bytes mode b → refused (stop_of_reading why) ≡ b
   unread_one mode why _ short none is (too_long longer) = absurd (omega (arith, longer, short))
-  unread_one mode why _ short none is (not_read other _ _ is2) = ap (λ r. refused (stop_of_reading r)) (one_refusal bytes none why other is is2)
+  unread_one mode why _ short none is (not_read other _ _ is2) = ap (λ r. refused (stop_of_reading r)) (one_refusal bytes why other is is2)
   unread_one mode why _ short none is (not_good m rule p _ reads first) = absurd (none m reads)
   unread_one _ why _ short none is (good m g) = absurd (none m g.reads)
   unread_one _ why _ short none is (not_exported m p g _ at) = absurd (none m g.reads)

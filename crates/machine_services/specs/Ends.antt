@@ -1,7 +1,8 @@
 -- How lists end, and where the words of lists and tuples stand, as the code sees it.
 use Rattle.std.specs.Prelude.{◌≡◌, ℕ, ◌+◌, ◌-◌, ◌*◌, ◌<◌, ◌≤◌, List, [], map, length, take, drop, nat_eq, nat_le, nat_lt, Bool, true, if◌then◌else◌, Option, Some, None}
 use Rattle.heap_terms.specs.Seen.{reference_of}
-use Rattle.heap_terms.specs.Shapes.{Reference, Shape, Tuple}
+use Rattle.heap_terms.specs.Shapes.{Reference, Shape, Nil, Cons, Tuple}
+use Rattle.heap_terms.specs.declared.shape.Reference.{Reference as AReference}
 use Rattle.machine_services.specs.Lists as Lists
 use Rattle.machine_services.specs.declared.list.Link.{Link}
 use Rattle.machine_services.specs.declared.list.Link.TheVariants as links
@@ -30,6 +31,16 @@ spine_elements (Lists.Proper ws) = ws
 abbrev pub IsWithin : ℕ → Spine → Type 0
 IsWithin limit (Proper n) = n ≤ limit
 IsWithin limit _ = Unit {0}
+
+abbrev pub code_reference : Reference → AReference
+code_reference r = record { below = r.below; word = r.word }
+
+-- what a list's word leads to, by its shape: the cell of a list, nil, and else no list
+abbrev pub link_of : Option (Shape Reference) → Link
+link_of None = links.NoTerm
+link_of (Some Nil) = links.End
+link_of (Some (Cons head tail)) = links.Cell head.word (code_reference tail)
+link_of (Some _) = links.Improper
 
 -- a list by what its word leads to, and by the lists that others are
 abbrev pub link_spine : (Reference → Lists.Spine) → Link → Lists.Spine

@@ -7,7 +7,7 @@ ghost use Rattle.heap_terms.specs.Shapes.{from_outside, shape_at};
 ghost use Rattle.machine_services.specs.Lists.{spine_at, spine_below, cells_from};
 ghost use Rattle.machine_services.specs.Services.{free_index};
 ghost use Rattle.machine_services.specs.declared.list.Spine.TheVariants.{Proper};
-ghost use Rattle.machine_services.specs.Ends.{stands_below, spine_elements, IsProper, spine_seen, IsWithin, link_spine, FallsBelow, list_word, elements_of, StandAt, room_of};
+ghost use Rattle.machine_services.specs.Ends.{stands_below, spine_elements, IsProper, spine_seen, IsWithin, link_of, link_spine, FallsBelow, list_word, elements_of, StandAt, room_of};
 
 use heap_terms::{Reference, Shape, Symbols, shape_at};
 use region_memory::layout::HEAP_END;
@@ -50,6 +50,7 @@ pub fn from_outside(heap: &[u64], word: u64) -> Reference
 /// What a list's word leads to.
 pub fn link_at(symbols: &Symbols, heap: &[u64], at: Reference) -> Link
     requires { length heap.now ≤ HEAP_LIMIT }
+    ensures link { result ≡ link_of (shape_at (symbols_of symbols.now) heap.now (reference_of at)) }
     ensures level { spine_below (symbols_of symbols.now) heap.now (reference_of at) ≡ link_spine (spine_below (symbols_of symbols.now) heap.now) result }
     ensures falls { FallsBelow at.below result }
 {

@@ -3,7 +3,7 @@ use Rattle.std.specs.Prelude.{◌≡◌, ℕ, List, ◌∷◌, Result, Ok, Err}
 use Rattle.hipe_terms.specs.declared.place.Place.{Place}
 use Rattle.core_grammar.specs.declared.terminal.Terminal.{Terminal}
 use Rattle.core_grammar.specs.Language.{limit}
-use Rattle.core_parser.specs.Machine.{Symbols, Answer, run}
+use Rattle.core_parser.specs.Machine.{Symbols, run}
 use Rattle.core_parser.specs.Values.{Values}
 use Rattle.parser_steps.specs.declared.refusal.Refusal.{Refusal}
 

@@ -1,5 +1,5 @@
 -- What the parser's moves ask and answer.
-use Rattle.std.specs.Prelude.{ℕ, ◌<◌, ◌^◌}
+use Rattle.std.specs.Prelude.{◌<◌, ◌^◌}
 use Rattle.core_grammar.specs.declared.terminal.Kind.{Kind}
 use Rattle.core_parser.specs.declared.moved.Moved.{Moved}
 

@@ -1,5 +1,5 @@
 -- Texts in pieces.
-use Rattle.std.proofs.Common.{◌≡◌, ℕ, ◌+◌, List, [], ◌∷◌, ◌++◌, length, refl, sym, ap, ◌∙◌, append_assoc, append-nil, add_assoc, arith}
+use Rattle.std.proofs.Common.{◌≡◌, ◌+◌, List, [], ◌∷◌, ◌++◌, length, refl, sym, ap, ◌∙◌, append_assoc, append-nil, add_assoc, arith}
 use Rattle.hipe_terms.specs.Shown.{Names, shown_all}
 use Rattle.hipe_terms.specs.Terms.{terms}
 use Rattle.core_values.specs.declared.value.Value.{Value}

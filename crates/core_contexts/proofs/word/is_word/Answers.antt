@@ -1,5 +1,5 @@
 use Rattle.std.proofs.Common.{ap, ◌∙◌, bytes_eq}
-use Rattle.core_contexts.proofs.Words.{bytes_eq-word}
+use Rattle.core_ast.proofs.Words.{bytes_eq-word}
 use Rattle.core_contexts.proofs.word.is_word.Goals as goal
 
 pub returns : goal.returns

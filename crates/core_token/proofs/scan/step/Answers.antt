@@ -15,4 +15,4 @@ returns-in-Err-lexeme_at-clause-answer c =
 pub returns-clause-answer : goal.returns-clause-answer
 returns-clause-answer c =
     let none : blank_length c.args.rest.now ≡ 0 = omega (arith, c.in-Ok.ensures.length, c.if-blank-gt0.false) in
-    over_token c.args.rest.now c.args.scan.now c.in-Ok-lexeme_at.lexeme c.place_behind-scan.result c.push.new.self none (sym c.in-Ok-lexeme_at.ensures.lexeme) c.in_ok-push.ensures c.place_behind-scan.ensures.passed
+    over_token c.args.rest.now c.args.scan.now c.in-Ok-lexeme_at.lexeme c.place_behind-scan.result c.push.new.self none (sym c.in-Ok-lexeme_at.ensures.lexeme) c.in_ok-push.ensures.ok c.place_behind-scan.ensures.passed

@@ -1,4 +1,4 @@
-use Rattle.std.proofs.Common.{ap, sym, map}
+use Rattle.std.proofs.Common.{ap, map}
 use Rattle.core_ast.specs.Trees.{expressions, expression_of}
 use Rattle.core_eval.proofs.Waits.{parts_empty, first_of}
 use Rattle.core_eval.proofs.run.Evaluator.parts.Goals as goal
