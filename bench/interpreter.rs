@@ -63,7 +63,7 @@ fn operation(opcode: u8) -> Option<Operation> {
     }
 }
 
-/// The instruction at the front of the bytes, and its length.
+/// The instruction at the beginning of the bytes, and its length.
 fn decode(code: &[u8]) -> Option<(Instruction, usize)> {
     let (rex, prefix) = match *code.first()? {
         b if b & 0xf0 == 0x40 => (b, 1),

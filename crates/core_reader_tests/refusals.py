@@ -380,9 +380,3 @@ NO_CALLS = [
     "'f'() ^1",
     "^( 'f'() -| [] )",
 ]
-
-
-def marked(text, begins):
-    """The text without its mark, and the column of what stands behind it, where the text begins at this column."""
-    before, behind = text.split("^")
-    return before + behind, begins + len(before)

@@ -8,7 +8,7 @@ use Rattle.std.proofs.Math.Seq.{drop-cons}
 use Rattle.amd64_form.specs.declared.form.Part.{Part}
 use Rattle.amd64_form.specs.declared.form.Part.TheVariants.{Byte, Wide, WideOne, Plus, ModRm, Memory, MemorySib, Count, Any}
 use Rattle.amd64_form.specs.declared.form.Fit.{Fit}
-use Rattle.amd64_form.specs.declared.form.Fit.TheVariants.{Whole, Front, Apart}
+use Rattle.amd64_form.specs.declared.form.Fit.TheVariants.{Whole, Prefix, Apart}
 use Rattle.amd64_form.specs.Form.{admits, fit}
 
 -- ---- one byte
@@ -17,9 +17,9 @@ pub whole_test : (t : Bool) (f : Fit) → cond t f Apart ≡ Whole → (t ≡ tr
 whole_test true f e = (refl, e)
 whole_test false f e = absurd cc
 
-pub front_test : (t : Bool) (f : Fit) → cond t f Apart ≡ Front → (t ≡ true) × (f ≡ Front)
-front_test true f e = (refl, e)
-front_test false f e = absurd cc
+pub prefix_test : (t : Bool) (f : Fit) → cond t f Apart ≡ Prefix → (t ≡ true) × (f ≡ Prefix)
+prefix_test true f e = (refl, e)
+prefix_test false f e = absurd cc
 
 pub passed : (t : Bool) (f : Fit) → t ≡ true → cond t f Apart ≡ f
 passed t f e = rw e refl
@@ -40,7 +40,7 @@ fit_length (p ∷ ps) [] e = absurd cc
 fit_length (p ∷ ps) (b ∷ bs) e = omega (arith, fit_length ps bs (whole_test (admits p b) (fit ps bs) e).1)
 
 -- a part of an encoding breaks off inside it
-pub fit_part : (ps : List Part) (bs more : List ℕ) → fit ps (bs ++ more) ≡ Whole → length bs < length ps → fit ps bs ≡ Front
+pub fit_part : (ps : List Part) (bs more : List ℕ) → fit ps (bs ++ more) ≡ Whole → length bs < length ps → fit ps bs ≡ Prefix
 fit_part [] bs more e lt = absurd (omega (arith, lt))
 fit_part (p ∷ ps) [] more e lt = refl
 fit_part (p ∷ ps) (b ∷ bs) more e lt =
@@ -48,7 +48,7 @@ fit_part (p ∷ ps) (b ∷ bs) more e lt =
     passed (admits p b) (fit ps bs) w.0 ∙ fit_part ps bs more w.1 (omega (arith, lt))
 
 -- where the bytes end before the parts
-pub breaks_off : (ps : List Part) (bs : List ℕ) (i : ℕ) → i < length ps → length bs ≤ i → fit (drop i ps) (drop i bs) ≡ Front
+pub breaks_off : (ps : List Part) (bs : List ℕ) (i : ℕ) → i < length ps → length bs ≤ i → fit (drop i ps) (drop i bs) ≡ Prefix
 breaks_off ps bs i lt le = rw (drop_all i bs le, drop-cons ps i Any lt) refl
 
 -- ---- what completes a part of an encoding
@@ -84,12 +84,12 @@ pub record Completes (ps : List Part) (bs more : List ℕ) : Type 0 where
   pub whole : fit ps (bs ++ more) ≡ Whole
   pub all : length (bs ++ more) ≡ length ps
 
-pub completed : (ps : List Part) (bs : List ℕ) → fit ps bs ≡ Front → (more : List ℕ) × Completes ps bs more
+pub completed : (ps : List Part) (bs : List ℕ) → fit ps bs ≡ Prefix → (more : List ℕ) × Completes ps bs more
 completed [] bs e = absurd cc
 completed (p ∷ ps) [] e =
     (map least (p ∷ ps), record { some = λ h. cc; whole = least_fit (p ∷ ps); all = length-map (p ∷ ps) least })
 completed (p ∷ ps) (b ∷ bs) e =
-    let t = front_test (admits p b) (fit ps bs) e in
+    let t = prefix_test (admits p b) (fit ps bs) e in
     let r = completed ps bs t.1 in
     (r.0, record { some = r.1.some; whole = passed (admits p b) (fit ps (bs ++ r.0)) t.0 ∙ r.1.whole; all = ap suc r.1.all })
 

@@ -5,17 +5,17 @@ use Rattle.std.proofs.lemmas.List.{append-nil, length-append, drop_all, drop_at}
 use Rattle.amd64_form.specs.declared.inst.Inst.{Inst}
 use Rattle.amd64_form.specs.declared.decoding.DecodeFault.{DecodeFault}
 use Rattle.amd64_form.specs.declared.decoding.DecodeFault.TheVariants.{Short, Unknown}
-use Rattle.amd64_form.specs.declared.form.Fit.TheVariants.{Whole, Front}
+use Rattle.amd64_form.specs.declared.form.Fit.TheVariants.{Whole, Prefix}
 use Rattle.amd64_form.specs.declared.form.Form.{Form}
 use Rattle.amd64_form.specs.declared.form.TheConstants.{FORMS}
 use Rattle.amd64_form.specs.Inst.{IsInst}
 use Rattle.amd64_form.specs.Encoding.{encoding, BeginsWithInst, IsPartOfInst}
 use Rattle.amd64_form.specs.Form.{parts_of, inst_of, reading}
 use Rattle.amd64_form.proofs.Fit.{fit_part, completed}
-use Rattle.amd64_form.proofs.Table.{fits, IsReadBy, read_is_whole, short_is_front, whole_is_read, front_is_short}
+use Rattle.amd64_form.proofs.Table.{fits, IsReadBy, read_is_whole, short_is_prefix, whole_is_read, prefix_is_short}
 use Rattle.amd64_form.proofs.Rows.{IsEncoding, is_encoding, IsReadAgain, is_read_again}
 
--- the instruction stands at the front of the bytes
+-- the instruction stands at the beginning of the bytes
 pub record StandsAt (bs : List ℕ) (i : Inst) (n : ℕ) : Type 0 where
   pub bytes : bs ≡ encoding i ++ drop n bs
   pub all : n ≡ length (encoding i)
@@ -36,7 +36,7 @@ standing_is_read i rest h =
 
 short_is_part : (bs : List ℕ) → reading FORMS bs ≡ Err Short → IsPartOfInst bs
 short_is_part bs e =
-    let r : (f : Form) × (fits f bs ≡ Front) = short_is_front FORMS bs e in
+    let r : (f : Form) × (fits f bs ≡ Prefix) = short_is_prefix FORMS bs e in
     let c = completed (parts_of r.0) bs r.1 in
     let s : IsEncoding r.0 (bs ++ c.0) = is_encoding r.0 (bs ++ c.0) c.1.whole in
     let none : drop (length (parts_of r.0)) (bs ++ c.0) ≡ [] = drop_all (length (parts_of r.0)) (bs ++ c.0) (omega (arith, c.1.all)) in
@@ -56,7 +56,7 @@ part_is_short bs p =
     let whole : fits a.form (bs ++ more) ≡ Whole = subst (λ (s : List ℕ). fits a.form s ≡ Whole) bytes a.whole in
     let size : length (encoding i) ≡ length bs + length more = ap length p.4 ∙ length-append bs more in
     let lt : length bs < length (parts_of a.form) = omega (arith, some_length more p.3, size, a.all) in
-    front_is_short a.form bs a.known (fit_part (parts_of a.form) bs more whole lt)
+    prefix_is_short a.form bs a.known (fit_part (parts_of a.form) bs more whole lt)
 
 -- ---- the answers of a reader
 
@@ -93,9 +93,9 @@ is_unknown bs r e = (
   λ none. unknown_from bs r e none.0 none.1,
 )
 
--- no encoding is the front of another
-pub one_front : (i j : Inst) (x y : List ℕ) → IsInst i → IsInst j → encoding i ++ x ≡ encoding j ++ y → (i ≡ j) × (x ≡ y)
-one_front i j x y a b e =
+-- no encoding is a prefix of another
+pub one_prefix : (i j : Inst) (x y : List ℕ) → IsInst i → IsInst j → encoding i ++ x ≡ encoding j ++ y → (i ≡ j) × (x ≡ y)
+one_prefix i j x y a b e =
     let first : reading FORMS (encoding i ++ x) ≡ Ok (i, length (encoding i)) = standing_is_read i x a in
     let second : reading FORMS (encoding j ++ y) ≡ Ok (j, length (encoding j)) = standing_is_read j y b in
     let both : (i, length (encoding i)) ≡ (j, length (encoding j)) = cc (first, second, ap (reading FORMS) e) in

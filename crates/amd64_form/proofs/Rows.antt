@@ -50,12 +50,12 @@ binary_constant_whole : (op : BinaryOp) (bs : List ℕ) → fits (forms.BinaryCo
 binary_constant_whole op bs e =
     let h = one_register_whole (opcode_of_constant op) (binary_digit op) (replicate 4 Any) bs e in
     let c = constant_32_whole (drop 3 bs) h.fits in
-    let front : List ℕ = one_register (opcode_of_constant op) (binary_digit op) (rm_at bs 2) in
+    let before : List ℕ = one_register (opcode_of_constant op) (binary_digit op) (rm_at bs 2) in
     let value : List ℕ = constant_32 (signed_at bs 3) in
     let rest : drop 4 (drop 3 bs) ≡ drop 7 bs = drop-drop 4 3 bs in
     record {
       ranges = c.fits;
-      bytes = h.is ∙ ap (λ (s : List ℕ). front ++ s) (c.is ∙ ap (λ (s : List ℕ). value ++ s) rest);
+      bytes = h.is ∙ ap (λ (s : List ℕ). before ++ s) (c.is ∙ ap (λ (s : List ℕ). value ++ s) rest);
       all = refl;
     }
 

@@ -6,7 +6,7 @@ use Rattle.amd64_form.specs.declared.inst.Inst.{Inst}
 use Rattle.amd64_form.specs.declared.decoding.DecodeFault.{DecodeFault}
 use Rattle.amd64_form.specs.declared.decoding.DecodeFault.TheVariants.{Short}
 use Rattle.amd64_form.specs.declared.form.Fit.{Fit}
-use Rattle.amd64_form.specs.declared.form.Fit.TheVariants.{Whole, Front, Apart}
+use Rattle.amd64_form.specs.declared.form.Fit.TheVariants.{Whole, Prefix, Apart}
 use Rattle.amd64_form.specs.declared.form.Form.{Form}
 use Rattle.amd64_form.specs.declared.form.TheConstants.{FORMS}
 use Rattle.amd64_form.specs.Form.{fit, parts_of, inst_of, reading_by, reading}
@@ -59,35 +59,35 @@ whole_found (g ∷ gs) f bs e h w =
           ap (λ v. reading_by v (inst_of g bs) (length (parts_of g)) (reading gs bs)) away ∙ whole_found gs f bs parts.1 later w
     ]
 
-front_at : (v : Fit) (g : Form) (gs : List Form) (f : Form) (bs : List ℕ) → fits g bs ≡ v → all_apart (g ∷ gs) ≡ true → Has (g ∷ gs) f → fits f bs ≡ Front → (Has gs f → reading gs bs ≡ Err Short)
+prefix_at : (v : Fit) (g : Form) (gs : List Form) (f : Form) (bs : List ℕ) → fits g bs ≡ v → all_apart (g ∷ gs) ≡ true → Has (g ∷ gs) f → fits f bs ≡ Prefix → (Has gs f → reading gs bs ≡ Err Short)
     → reading_by v (inst_of g bs) (length (parts_of g)) (reading gs bs) ≡ Err Short
-front_at Whole g gs f bs is e h w rest =
+prefix_at Whole g gs f bs is e h w rest =
     let parts = both (list_all (λ k. are_apart (parts_of g) (parts_of k)) gs) (all_apart gs) e in
     elim h [
-      | inl same ↦ let here : fits g bs ≡ Front = subst (λ k. fits k bs ≡ Front) same w in absurd cc
+      | inl same ↦ let here : fits g bs ≡ Prefix = subst (λ k. fits k bs ≡ Prefix) same w in absurd cc
       | inr later ↦
           let away : fits f bs ≡ Apart = apart_first (parts_of g) (parts_of f) bs (all_at (λ k. are_apart (parts_of g) (parts_of k)) gs f parts.0 later) is in
           absurd cc
     ]
-front_at Front g gs f bs is e h w rest = refl
-front_at Apart g gs f bs is e h w rest =
+prefix_at Prefix g gs f bs is e h w rest = refl
+prefix_at Apart g gs f bs is e h w rest =
     elim h [
-      | inl same ↦ let here : fits g bs ≡ Front = subst (λ k. fits k bs ≡ Front) same w in absurd cc
+      | inl same ↦ let here : fits g bs ≡ Prefix = subst (λ k. fits k bs ≡ Prefix) same w in absurd cc
       | inr later ↦ rest later
     ]
 
 -- a form that may still fit, where a form does
-front_found : (fs : List Form) (f : Form) (bs : List ℕ) → all_apart fs ≡ true → Has fs f → fits f bs ≡ Front → reading fs bs ≡ Err Short
+prefix_found : (fs : List Form) (f : Form) (bs : List ℕ) → all_apart fs ≡ true → Has fs f → fits f bs ≡ Prefix → reading fs bs ≡ Err Short
 unfolding reading
-front_found [] f bs e h w = absurd h
-front_found (g ∷ gs) f bs e h w =
-    front_at (fits g bs) g gs f bs refl e h w (λ later. front_found gs f bs (both (list_all (λ k. are_apart (parts_of g) (parts_of k)) gs) (all_apart gs) e).1 later w)
+prefix_found [] f bs e h w = absurd h
+prefix_found (g ∷ gs) f bs e h w =
+    prefix_at (fits g bs) g gs f bs refl e h w (λ later. prefix_found gs f bs (both (list_all (λ k. are_apart (parts_of g) (parts_of k)) gs) (all_apart gs) e).1 later w)
 
 pub whole_is_read : (f : Form) (bs : List ℕ) → Has FORMS f → fits f bs ≡ Whole → reading FORMS bs ≡ Ok (inst_of f bs, length (parts_of f))
 whole_is_read f bs h w = whole_found FORMS f bs forms_apart h w
 
-pub front_is_short : (f : Form) (bs : List ℕ) → Has FORMS f → fits f bs ≡ Front → reading FORMS bs ≡ Err Short
-front_is_short f bs h w = front_found FORMS f bs forms_apart h w
+pub prefix_is_short : (f : Form) (bs : List ℕ) → Has FORMS f → fits f bs ≡ Prefix → reading FORMS bs ≡ Err Short
+prefix_is_short f bs h w = prefix_found FORMS f bs forms_apart h w
 
 -- ---- what is found is of a form
 
@@ -98,7 +98,7 @@ read_at : (v : Fit) (g : Form) (bs : List ℕ) (i : Inst) (n : ℕ) (others : Re
 read_at Whole g bs i n others is e rest =
     let same : (inst_of g bs, length (parts_of g)) ≡ (i, n) = cc in
     (g, is, ap (λ (x : Inst × ℕ). x.0) same, ap (λ (x : Inst × ℕ). x.1) same)
-read_at Front g bs i n others is e rest = absurd cc
+read_at Prefix g bs i n others is e rest = absurd cc
 read_at Apart g bs i n others is e rest = rest e
 
 pub read_is_whole : (fs : List Form) (bs : List ℕ) (i : Inst) (n : ℕ) → reading fs bs ≡ Ok (i, n) → IsReadBy bs i n
@@ -106,12 +106,12 @@ unfolding reading
 read_is_whole [] bs i n e = absurd cc
 read_is_whole (g ∷ gs) bs i n e = read_at (fits g bs) g bs i n (reading gs bs) refl e (read_is_whole gs bs i n)
 
-short_at : (v : Fit) (g : Form) (bs : List ℕ) (others : Result (Inst × ℕ) DecodeFault) → fits g bs ≡ v → reading_by v (inst_of g bs) (length (parts_of g)) others ≡ Err Short → (others ≡ Err Short → (f : Form) × (fits f bs ≡ Front)) → (f : Form) × (fits f bs ≡ Front)
+short_at : (v : Fit) (g : Form) (bs : List ℕ) (others : Result (Inst × ℕ) DecodeFault) → fits g bs ≡ v → reading_by v (inst_of g bs) (length (parts_of g)) others ≡ Err Short → (others ≡ Err Short → (f : Form) × (fits f bs ≡ Prefix)) → (f : Form) × (fits f bs ≡ Prefix)
 short_at Whole g bs others is e rest = absurd cc
-short_at Front g bs others is e rest = (g, is)
+short_at Prefix g bs others is e rest = (g, is)
 short_at Apart g bs others is e rest = rest e
 
-pub short_is_front : (fs : List Form) (bs : List ℕ) → reading fs bs ≡ Err Short → (f : Form) × (fits f bs ≡ Front)
+pub short_is_prefix : (fs : List Form) (bs : List ℕ) → reading fs bs ≡ Err Short → (f : Form) × (fits f bs ≡ Prefix)
 unfolding reading
-short_is_front [] bs e = absurd cc
-short_is_front (g ∷ gs) bs e = short_at (fits g bs) g bs (reading gs bs) refl e (short_is_front gs bs)
+short_is_prefix [] bs e = absurd cc
+short_is_prefix (g ∷ gs) bs e = short_at (fits g bs) g bs (reading gs bs) refl e (short_is_prefix gs bs)

@@ -81,7 +81,7 @@ encoding (Pop r) = short_register 0x58 r
 encoding Return = 0xC3 ∷ []
 encoding Syscall = 0x0F ∷ 0x05 ∷ []
 
--- an instruction stands at the front of the bytes
+-- an instruction stands at the beginning of the bytes
 abbrev pub BeginsWithInst : List ℕ → Type 0
 BeginsWithInst bytes = (i : Inst) × (rest : List ℕ) × IsInst i × (bytes ≡ encoding i ++ rest)
 

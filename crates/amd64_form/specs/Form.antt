@@ -8,7 +8,7 @@ use Rattle.amd64_form.specs.declared.inst.Inst.TheVariants.{Move, Load, Store, L
 use Rattle.amd64_form.specs.declared.form.Part.{Part}
 use Rattle.amd64_form.specs.declared.form.Part.TheVariants.{Byte, Wide, WideOne, Plus, ModRm, Memory, MemorySib, Count, Any}
 use Rattle.amd64_form.specs.declared.form.Fit.{Fit}
-use Rattle.amd64_form.specs.declared.form.Fit.TheVariants.{Whole, Front, Apart}
+use Rattle.amd64_form.specs.declared.form.Fit.TheVariants.{Whole, Prefix, Apart}
 use Rattle.amd64_form.specs.declared.form.Form.{Form}
 use Rattle.amd64_form.specs.declared.form.Form.TheVariants as forms
 use Rattle.amd64_form.specs.declared.decoding.DecodeFault.{DecodeFault}
@@ -60,7 +60,7 @@ parts_of forms.Syscall = Byte 0x0F ∷ Byte 0x05 ∷ []
 -- how bytes stand to these parts
 abbrev pub fit : List Part → List ℕ → Fit
 fit [] bytes = Whole
-fit (p ∷ ps) [] = Front
+fit (p ∷ ps) [] = Prefix
 fit (p ∷ ps) (b ∷ bs) = if admits p b then fit ps bs else Apart
 
 -- the register of the field reg: its top bit is R of the prefix
@@ -71,7 +71,7 @@ reg_field prefix byte = register (8 * (prefix / 4 % 2) + byte / 8 % 8)
 abbrev pub rm_field : ℕ → ℕ → Reg
 rm_field prefix byte = register (8 * (prefix % 2) + byte % 8)
 
--- these two of a prefix in front and the byte at this place
+-- these two of a prefix before and the byte at this place
 abbrev pub reg_at : List ℕ → ℕ → Reg
 reg_at s at = reg_field (slice_index s 0) (slice_index s at)
 
@@ -125,7 +125,7 @@ inst_of forms.Syscall s = Syscall
 -- what the fit to one form gives, or else the other forms
 abbrev pub reading_by : Fit → Inst → ℕ → Result (Inst × ℕ) DecodeFault → Result (Inst × ℕ) DecodeFault
 reading_by Whole i n others = Ok (i, n)
-reading_by Front i n others = Err Short
+reading_by Prefix i n others = Err Short
 reading_by Apart i n others = others
 
 -- what the first form that fits gives

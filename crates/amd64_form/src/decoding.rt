@@ -1,4 +1,4 @@
-//! From bytes to the instruction at their front.
+//! From bytes to the instruction at their beginning.
 
 ghost use Rattle.std.specs.Prelude.{◌≡◌, ◌↔◌, ℕ, List, length, drop, ◌++◌, IfOk, Ok};
 ghost use Rattle.amd64_form.specs.Inst.{IsInst};
@@ -15,11 +15,11 @@ pub enum DecodeFault {
     /// The bytes break off inside an instruction: more bytes could make one.
     Short,
 
-    /// No instruction stands at the front, and none would whatever came after the bytes.
+    /// No instruction stands at the beginning, and none would whatever came after the bytes.
     Unknown,
 }
 
-/// Reads the instruction at the front of the bytes, and how many bytes it has. Bytes may follow it.
+/// Reads the instruction at the beginning of the bytes, and how many bytes it has. Bytes may follow it.
 pub fn decode(bytes: &[u8]) -> Result<(Inst, usize), DecodeFault>
     // What is read stands there.
     ensures found { IfOk result (λ found. bytes.now ≡ encoding found.0 ++ drop found.1 bytes.now) }
@@ -43,14 +43,14 @@ fn read(forms: &[Form], bytes: &[u8]) -> Result<(Inst, usize), DecodeFault>
     for form in forms {
         match form.fit(bytes) {
             Fit::Whole => return Ok((form.inst(bytes), form.parts().len())),
-            Fit::Front => return Err(DecodeFault::Short),
+            Fit::Prefix => return Err(DecodeFault::Short),
             Fit::Apart => {}
         }
     }
     Err(DecodeFault::Unknown)
 }
 
-/// No encoding is the front of another, and no two instructions share one. So what `encode` writes is
+/// No encoding is a prefix of another, and no two instructions share one. So what `encode` writes is
 /// read again by `decode`, whatever follows it.
 pub fn one_spelling()
     ensures { (i j : Inst) (x y : List ℕ) → IsInst i → IsInst j → encoding i ++ x ≡ encoding j ++ y → (i ≡ j) × (x ≡ y) }

@@ -71,11 +71,11 @@ fn one_register(opcode: u8, digit: u8, m: Reg) -> Bytes
 }
 
 /// These bytes and a signed constant of 32 bits.
-fn with_constant(front: Bytes, value: i32) -> Bytes
-    requires { length front ≤ 11 }
-    ensures { result ≡ front ++ constant_32 value }
+fn with_constant(before: Bytes, value: i32) -> Bytes
+    requires { length before ≤ 11 }
+    ensures { result ≡ before ++ constant_32 value }
 {
-    let mut bytes = front;
+    let mut bytes = before;
     bytes.extend(&value.to_le_bytes());
     bytes
 }

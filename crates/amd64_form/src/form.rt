@@ -70,7 +70,7 @@ pub enum Fit {
     Whole,
 
     /// They break off inside an encoding of this form.
-    Front,
+    Prefix,
 
     /// Neither.
     Apart,
@@ -253,7 +253,7 @@ impl Form {
     {
         for (i, part) in self.parts().iter().enumerate() {
             if i >= bytes.len() {
-                return Fit::Front;
+                return Fit::Prefix;
             }
             if !part.admits(bytes[i]) {
                 return Fit::Apart;
@@ -377,7 +377,7 @@ fn rm_field(prefix: u8, byte: u8) -> Reg
     Reg::from_number(8 * (prefix % 2) + byte % 8)
 }
 
-/// The constant of 64 bits at the front.
+/// The constant of 64 bits at the beginning.
 fn constant_64(bytes: &[u8]) -> u64
     requires { 8 ≤ length bytes.now }
     ensures { result ≡ from_le_bytes w64 (take 8 bytes.now) }
@@ -387,7 +387,7 @@ fn constant_64(bytes: &[u8]) -> u64
     ])
 }
 
-/// The signed constant of 32 bits at the front.
+/// The signed constant of 32 bits at the beginning.
 fn constant_32(bytes: &[u8]) -> i32
     requires { 4 ≤ length bytes.now }
     ensures { result ≡ cast_signed w32 (from_le_bytes w32 (take 4 bytes.now)) }

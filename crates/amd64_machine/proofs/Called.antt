@@ -5,27 +5,27 @@ use Rattle.std.specs.Io.KnownBytes.{Appends}
 use Rattle.std.specs.Global.{Global}
 use Rattle.std.specs.declared.string.String.{String}
 use Rattle.hipe_terms.specs.Terms.{Term}
-use Rattle.hipe_terms.specs.Outcome.{Class, error, exit, throw}
+use Rattle.hipe_terms.specs.declared.class.Class.{Class}
 use Rattle.hipe_edge.specs.Bytes.{AppendsPrefix}
 use Rattle.hipe_edge.specs.Counts.{Rises}
 use Rattle.hipe_edge.specs.Streams.{stream}
 use Rattle.heap_terms.specs.Shapes.{Symbols}
 use Rattle.heap_terms.specs.Terms.{term_at}
-use Rattle.machine_services.specs.declared.services.Class.{Class as ClassCode}
-use Rattle.machine_services.specs.declared.services.Served.{Served}
 use Rattle.machine_services.specs.declared.services.Served.TheVariants as done
-use Rattle.machine_services.specs.Services.{Service, NoNext, Ends, Answers, Displays, Builds, Returned, Raised, HeapFull, StackFull, returned, raised}
-use Rattle.machine_services.specs.Served.{IsServed, class_seen, line_of}
+use Rattle.machine_services.specs.Services.{Effect, NoNext, Ends, Answers, Displays, Builds, Returned, Raised, HeapFull, StackFull, returned, raised}
+use Rattle.machine_services.specs.Served.{line_of}
 use Rattle.amd64_form.specs.declared.reg.Reg.TheVariants.{Rax, Rdi, Rsi, R15}
 use Rattle.amd64_machine.specs.declared.state.Core.{Core}
 use Rattle.amd64_machine.specs.declared.state.Ended.{Ended}
 use Rattle.amd64_machine.specs.declared.state.Ended.TheVariants as ways
 use Rattle.amd64_machine.specs.declared.machine.End.TheVariants as ends
 use Rattle.amd64_machine.specs.Arithmetic.{no_flags}
-use Rattle.amd64_machine.specs.Machine.{Registers, On, Calls, called, served, machine_step, word_in, true_word, answered, grown}
+use Rattle.heap_terms.specs.declared.tags.TheConstants.{TRUE_WORD}
+use Rattle.amd64_machine.specs.Machine.{Registers, On, Calls, served, machine_step, word_in, answered, grown}
 use Rattle.amd64_machine.specs.Result.{displayed_by, lines}
 use Rattle.amd64_machine.specs.Outcome.{Stepped}
-use Rattle.amd64_machine.specs.Seen.{HasTerm, class_of, over, registers_seen, state_at, state_ended, stopped_seen, machine_seen, end_seen}
+use Rattle.amd64_machine.specs.Seen.{HasTerm, over, registers_seen, state_at, state_ended, stopped_seen, machine_seen, end_seen}
+use Rattle.amd64_machine.specs.Steps.{service_of, WasServed}
 use Rattle.amd64_machine.proofs.Written.{keeps, appends_nothing}
 use Rattle.amd64_machine.proofs.Ends.{nothing}
 use Rattle.amd64_machine.proofs.Advancing.{acted, step_is, goes_to, ends_so}
@@ -41,15 +41,7 @@ same_core core mid changes same = changes ∙ ap (λ heap. record core { region 
 same_state : (core mid : Core) → mid ≡ core → (ts : List Term) → state_at mid ts ≡ state_at core ts
 same_state core mid same ts = ap (λ (m : Core). state_at m ts) same
 
--- the service that is called
-abbrev pub service_of : Symbols → Core → Service
-service_of symbols core = called symbols (registers_seen core.registers) core.region
-
-abbrev pub WasServed : Symbols → Core → Served → Core → Type 0
-WasServed symbols core s mid =
-    IsServed symbols.definitions core.region.heap (word_in (registers_seen core.registers) R15) (service_of symbols core) s mid.region.heap
-
-served_is : (symbols : Symbols) (core : Core) (next : ℕ) (v : Service) → acted core ≡ Calls next → service_of symbols core ≡ v
+served_is : (symbols : Symbols) (core : Core) (next : ℕ) (v : Effect) → acted core ≡ Calls next → service_of symbols core ≡ v
     → machine_step symbols (state_at core []) ≡ served core.at next (registers_seen core.registers) core.region [] v
 served_is symbols core next v e is =
     step_is symbols core (Calls next) e ∙ ap (served core.at next (registers_seen core.registers) core.region []) is
@@ -60,7 +52,7 @@ EndsSo symbols core mid ended bytes faults =
     Stepped (machine_seen symbols core None) (machine_seen symbols mid (Some ended)) (nothing bytes faults) (Some (end_seen ended))
     × HasTerm symbols mid.region.heap (Some ended)
 
-ends_here : (symbols : Symbols) (core mid : Core) (ended : Ended) (next : ℕ) (v : Service) (bytes : Option (List ℕ)) (faults : ℕ)
+ends_here : (symbols : Symbols) (core mid : Core) (ended : Ended) (next : ℕ) (v : Effect) (bytes : Option (List ℕ)) (faults : ℕ)
     → acted core ≡ Calls next → service_of symbols core ≡ v → mid ≡ core → HasTerm symbols core.region.heap (Some ended)
     → stopped_seen (Some ended) ≡ None
     → served core.at next (registers_seen core.registers) core.region [] v ≡ state_ended symbols core ended []
@@ -70,7 +62,7 @@ ends_here symbols core mid ended next v bytes faults e is same has stopped state
     (ends_so symbols core core ended bytes faults has stopped (served_is symbols core next v e is ∙ state), has)
 
 -- the term for which the word in rdi stands, where the service ends with a term
-term_is : (symbols : Symbols) (core : Core) (v : Service) → service_of symbols core ≡ v
+term_is : (symbols : Symbols) (core : Core) (v : Effect) → service_of symbols core ≡ v
     → EndsWith (term_at symbols core.region.heap (word_in (registers_seen core.registers) Rdi)) v
 term_is symbols core v is =
     let registers = registers_seen core.registers in
@@ -96,23 +88,17 @@ returns_here symbols core mid next word bytes faults e changes s is_first =
     (ends_here symbols core mid (ways.Returned first) next (Ends (Returned is.0)) bytes faults e is.1 (same_core core mid changes is.2)
     (is.0, term) refl (ap (λ o. over core.at (returned o) []) (sym term)))
 
-class_again : (class : Class) → class_of (class_seen class) ≡ class
-class_again error = refl
-class_again exit = refl
-class_again throw = refl
-
-pub raises_here : (symbols : Symbols) (core mid : Core) (next word : ℕ) (code : ClassCode) (bytes : Option (List ℕ)) (faults : ℕ) → acted core ≡ Calls next
+pub raises_here : (symbols : Symbols) (core mid : Core) (next word : ℕ) (code : Class) (bytes : Option (List ℕ)) (faults : ℕ) → acted core ≡ Calls next
     → HeapChanges core mid → WasServed symbols core (done.Raised code) mid → word ≡ word_in (registers_seen core.registers) Rdi
     → EndsSo symbols core mid (ways.Raised code word) bytes faults
 raises_here symbols core mid next word code bytes faults e changes s is_first =
     let is = has_raised _ _ _ _ code _ s in
     let first = word_in (registers_seen core.registers) Rdi in
-    let v = Ends (Raised is.0 is.1) in
-    let term : term_at symbols core.region.heap first ≡ Some is.1 = term_is symbols core v is.2 in
-    let class : class_of code ≡ is.0 = ap class_of (sym is.3) ∙ class_again is.0 in
+    let v = Ends (Raised code is.0) in
+    let term : term_at symbols core.region.heap first ≡ Some is.0 = term_is symbols core v is.1 in
     subst (λ w. EndsSo symbols core mid (ways.Raised code w) bytes faults) (sym is_first)
-    (ends_here symbols core mid (ways.Raised code first) next v bytes faults e is.2 (same_core core mid changes is.4)
-    (is.1, term) refl (ap (λ k. over core.at (raised (Some k) (Some is.1)) []) (sym class) ∙ ap (λ o. over core.at (raised (Some (class_of code)) o) []) (sym term)))
+    (ends_here symbols core mid (ways.Raised code first) next v bytes faults e is.1 (same_core core mid changes is.2)
+    (is.0, term) refl (ap (λ o. over core.at (raised (Some code) o) []) (sym term)))
 
 pub heap_is_full : (symbols : Symbols) (core mid : Core) (next : ℕ) (bytes : Option (List ℕ)) (faults : ℕ) → acted core ≡ Calls next
     → HeapChanges core mid → WasServed symbols core done.HeapFull mid → EndsSo symbols core mid ways.HeapFull bytes faults
@@ -143,15 +129,15 @@ answers_here symbols core mid new next word bytes faults e changes s state =
     goes_to symbols core new [] bytes bytes faults faults (served_is symbols core next (Answers word) e is.0 ∙ sym there) (appends_nothing bytes)
 
 pub displays_here : (symbols : Symbols) (core mid new : Core) (next : ℕ) (text : String Global) (line : List ℕ) (before after : Option (List ℕ)) (m n : ℕ) → acted core ≡ Calls next
-    → HeapChanges core mid → WasServed symbols core (done.Displayed text) mid → line ≡ string_bytes text → GoesOnWith mid next (answered true_word) new
+    → HeapChanges core mid → WasServed symbols core (done.Displayed text) mid → line ≡ string_bytes text → GoesOnWith mid next (answered TRUE_WORD) new
     → Appends before after line
     → Stepped (machine_seen symbols core None) (machine_seen symbols new None) (stream before after m n) None
 displays_here symbols core mid new next text line before after m n e changes s bytes state written =
     let is = has_displayed _ _ _ _ text _ s in
     let same = same_core core mid changes is.3 in
     let ts = is.0 ∷ [] in
-    let there : state_at new ts ≡ On next (answered true_word (registers_seen core.registers)) no_flags core.region ts =
-    state ts ∙ ap (λ (m : Core). On next (answered true_word (registers_seen m.registers)) no_flags m.region ts) same in
+    let there : state_at new ts ≡ On next (answered TRUE_WORD (registers_seen core.registers)) no_flags core.region ts =
+    state ts ∙ ap (λ (m : Core). On next (answered TRUE_WORD (registers_seen m.registers)) no_flags m.region ts) same in
     let shown : line ≡ lines symbols.definitions ts = bytes ∙ is.2 ∙ sym (append-nil (line_of symbols.definitions is.0)) in
     goes_to symbols core new ts before after m n (served_is symbols core next (Displays is.0) e is.1 ∙ sym there)
     (subst (Appends before after) shown written)

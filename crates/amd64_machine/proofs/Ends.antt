@@ -1,13 +1,12 @@
 -- A machine that is over stays so.
-use Rattle.std.proofs.Common.{◌≡◌, ℕ, List, [], ◌++◌, Option, Some, None, refl, sym, ap, subst, ◌∙◌, inl, inr}
+use Rattle.std.proofs.Common.{◌≡◌, ℕ, List, [], ◌++◌, Option, Some, None, refl, sym, ap, subst, inl, inr}
 use Rattle.std.specs.Prelude.{◌⊎◌, unwrap_or}
 use Rattle.hipe_terms.specs.Terms.{Term}
 use Rattle.heap_terms.specs.Shapes.{Symbols}
 use Rattle.heap_terms.specs.Terms.{term_at}
 use Rattle.heap_terms.specs.Seen.{symbols_of}
-use Rattle.machine_services.specs.Services.{Service, NoNext, Ends, Answers, Displays, Builds, returned, raised}
-use Rattle.machine_services.specs.declared.services.Class.{Class as ClassCode}
-use Rattle.machine_services.specs.declared.services.Class.TheVariants as classes
+use Rattle.hipe_terms.specs.declared.class.Class.{Class}
+use Rattle.machine_services.specs.Services.{Effect, NoNext, Ends, Answers, Displays, Builds, returned, raised}
 use Rattle.amd64_machine.specs.declared.machine.End.{End}
 use Rattle.amd64_machine.specs.declared.machine.End.TheVariants as ends
 use Rattle.amd64_machine.specs.declared.state.Core.{Core}
@@ -16,11 +15,11 @@ use Rattle.amd64_machine.specs.declared.state.Ended.TheVariants as ways
 use Rattle.amd64_machine.specs.Result.{end_of}
 use Rattle.hipe_edge.specs.Streams.{Stream, stream}
 use Rattle.amd64_machine.specs.Outcome.{Seen, Stepped, Ran}
-use Rattle.amd64_machine.specs.Seen.{HasTerm, class_of, over, state_ended, state_seen, stopped_seen, machine_seen, end_seen, Held, machine_of}
+use Rattle.amd64_machine.specs.Seen.{HasTerm, over, state_ended, state_seen, stopped_seen, machine_seen, end_seen, Held, machine_of}
 use Rattle.amd64_machine.proofs.Written.{keeps, appends_nothing}
 use Rattle.amd64_machine.proofs.Runs.{after, run_ended}
 
-over_after : (at : ℕ) (v : Service) (ts us : List Term) → over at v (ts ++ us) ≡ after ts (over at v us)
+over_after : (at : ℕ) (v : Effect) (ts us : List Term) → over at v (ts ++ us) ≡ after ts (over at v us)
 over_after at NoNext ts us = refl
 over_after at (Ends ending) ts us = refl
 over_after at (Answers word) ts us = refl
@@ -32,7 +31,7 @@ pub ended_after : (symbols : Symbols) (core : Core) (ended : Ended) (ts us : Lis
     → state_ended symbols core ended (ts ++ us) ≡ after ts (state_ended symbols core ended us)
 ended_after symbols core (ways.Returned word) ts us = over_after core.at (returned (term_at symbols core.region.heap word)) ts us
 ended_after symbols core (ways.Raised class word) ts us =
-    over_after core.at (raised (Some (class_of class)) (term_at symbols core.region.heap word)) ts us
+    over_after core.at (raised (Some class) (term_at symbols core.region.heap word)) ts us
 ended_after symbols core ways.Undefined ts us = refl
 ended_after symbols core ways.HeapFull ts us = refl
 ended_after symbols core ways.StackFull ts us = refl
@@ -48,15 +47,9 @@ seen_after symbols core (Some ended) ts us = ended_after symbols core ended ts u
 returned_end : (at : ℕ) (o : Option Term) (t : Term) (ts : List Term) → o ≡ Some t → end_of (over at (returned o) ts) ≡ Some ends.Returned
 returned_end at o t ts h = ap (λ x. end_of (over at (returned x) ts)) h
 
-some_raised : (at : ℕ) (class : ClassCode) (t : Term) (ts : List Term)
-    → end_of (over at (raised (Some (class_of class)) (Some t)) ts) ≡ Some (ends.Raised class)
-some_raised at classes.Error t ts = refl
-some_raised at classes.Exit t ts = refl
-some_raised at classes.Throw t ts = refl
-
-raised_end : (at : ℕ) (class : ClassCode) (o : Option Term) (t : Term) (ts : List Term) → o ≡ Some t
-    → end_of (over at (raised (Some (class_of class)) o) ts) ≡ Some (ends.Raised class)
-raised_end at class o t ts h = ap (λ x. end_of (over at (raised (Some (class_of class)) x) ts)) h ∙ some_raised at class t ts
+raised_end : (at : ℕ) (class : Class) (o : Option Term) (t : Term) (ts : List Term) → o ≡ Some t
+    → end_of (over at (raised (Some class) o) ts) ≡ Some (ends.Raised class)
+raised_end at class o t ts h = ap (λ x. end_of (over at (raised (Some class) x) ts)) h
 
 -- the end of a run that is over
 pub ended_end : (symbols : Symbols) (core : Core) (ended : Ended) (ts : List Term) → HasTerm symbols core.region.heap (Some ended)

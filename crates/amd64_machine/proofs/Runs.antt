@@ -3,7 +3,7 @@ use Rattle.std.proofs.Common.{◌≡◌, ℕ, zero, suc, ◌+◌, List, [], ◌�
 use Rattle.hipe_terms.specs.Terms.{Term}
 use Rattle.region_memory.specs.Regions.{Regions}
 use Rattle.heap_terms.specs.Shapes.{Symbols}
-use Rattle.machine_services.specs.Services.{Service, NoNext, Ends, Answers, Displays, Builds}
+use Rattle.machine_services.specs.Services.{Effect, NoNext, Ends, Answers, Displays, Builds}
 use Rattle.amd64_machine.specs.declared.machine.End.{End}
 use Rattle.amd64_machine.specs.Fetch.{fetch}
 use Rattle.amd64_machine.specs.Machine.{Registers, State, On, Over, Ending, Step, Goes, Stops, Calls, act, called, served, stepped, machine_step, machine_run}
@@ -23,7 +23,7 @@ pub after_displayed : (ts : List Term) (s : State) → displayed_by (after ts s)
 after_displayed ts (On at registers flags regions displayed) = refl
 after_displayed ts (Over ending displayed) = refl
 
-served_after : (at next : ℕ) (registers : Registers) (regions : Regions) (ts us : List Term) (v : Service)
+served_after : (at next : ℕ) (registers : Registers) (regions : Regions) (ts us : List Term) (v : Effect)
     → served at next registers regions (ts ++ us) v ≡ after ts (served at next registers regions us v)
 served_after at next registers regions ts us NoNext = refl
 served_after at next registers regions ts us (Ends ending) = refl
@@ -63,7 +63,7 @@ run_last symbols m s = let e : suc m ≡ m + 1 = omega arith in ap (λ k. machin
 
 -- ---- what was displayed stays
 
-served_grows : (at next : ℕ) (registers : Registers) (regions : Regions) (us : List Term) (v : Service)
+served_grows : (at next : ℕ) (registers : Registers) (regions : Regions) (us : List Term) (v : Effect)
     → (ts : List Term) × (displayed_by (served at next registers regions us v) ≡ us ++ ts)
 served_grows at next registers regions us NoNext = ([], sym (append-nil us))
 served_grows at next registers regions us (Ends ending) = ([], sym (append-nil us))

@@ -24,7 +24,7 @@ appends_kept (Some x) None c bs p q = absurd p
 appends_kept (Some x) (Some y) None bs p q = absurd q
 appends_kept (Some x) (Some y) (Some z) bs p q = q ∙ p
 
--- a front of what comes after something is written behind it
+-- a prefix of what comes after something is written behind it
 pub prefix_behind : (a b c : Option (List ℕ)) (bs cs : List ℕ) → Appends a b bs → AppendsPrefix b c cs → AppendsPrefix a c (bs ++ cs)
 prefix_behind a b c bs cs p q =
     (length bs + q.0, subst (Appends a c) (sym (take-append-add bs cs q.0)) (appends_both a b c bs (take q.0 cs) p q.1))

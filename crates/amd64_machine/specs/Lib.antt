@@ -7,3 +7,4 @@ pub mod Result
 pub mod Outcome
 pub mod Laws
 pub mod Seen
+pub mod Steps

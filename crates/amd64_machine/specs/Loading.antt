@@ -1,9 +1,9 @@
 -- The state in which a loaded program begins: the arguments are in rdi, rsi, r8 and r9, the stack has the exit part's address alone, the
--- heap's free place is in r15, all other registers are 0, and no flag is known.
+-- heap pointer is in r15, all other registers are 0, and no flag is known.
 use Rattle.std.specs.Prelude.{ℕ, ◌+◌, ◌-◌, ◌*◌, List, [], length, codes}
 use Rattle.std.specs.Prelude.{get_or}
 use Rattle.hipe_terms.specs.Terms.{atom}
-use Rattle.hipe_terms.specs.Outcome.{error}
+use Rattle.hipe_terms.specs.declared.class.Class.TheVariants.{Error}
 use Rattle.hipe_terms.specs.declared.constant.Call.{Call}
 use Rattle.region_memory.specs.declared.layout.TheConstants.{STACK_BEGIN}
 use Rattle.region_memory.specs.Regions.{Regions}
@@ -20,7 +20,7 @@ first_registers arguments free rsp =
     (put R15 free (put Rsp rsp (λ q. 0))))))
 
 abbrev pub begun : Regions → Beginning → State
-begun regions Undefined = Over (ByService (Raised error (atom (codes "undef")))) []
+begun regions Undefined = Over (ByService (Raised Error (atom (codes "undef")))) []
 begun regions HeapFull = Over (ByService FullHeap) []
 begun regions (Ready at arguments free) =
     On at (first_registers arguments free (STACK_BEGIN + 8 * (length regions.stack - 1))) no_flags regions []

@@ -9,7 +9,7 @@ use Rattle.amd64_machine.specs.Machine.{State, machine_step, machine_run}
 use Rattle.amd64_machine.specs.Result.{end_of, answer_of, displayed_by, lines}
 
 -- A machine as contracts see it: its symbols, its state for what was displayed before, and whether it was stopped by a write that failed
--- or by want of memory.
+-- or out of memory.
 pub record Seen : Type 0 where
   pub symbols : Symbols
   pub state : List Term → State

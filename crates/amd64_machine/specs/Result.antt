@@ -2,16 +2,16 @@
 use Rattle.std.specs.Prelude.{ℕ, List, [], ◌++◌, flat_map, Option, Some, None, unwrap_or, codes}
 use Rattle.hipe_terms.specs.Terms.{Term}
 use Rattle.hipe_terms.specs.Shown.{Names}
-use Rattle.hipe_terms.specs.Outcome.{Class, error, exit, throw}
+use Rattle.hipe_terms.specs.Classes.{class_name}
 use Rattle.machine_services.specs.Services.{Returned, Raised, HeapFull, StackFull}
-use Rattle.machine_services.specs.Served.{class_seen, line_of}
+use Rattle.machine_services.specs.Served.{line_of}
 use Rattle.amd64_machine.specs.declared.machine.End.{End}
 use Rattle.amd64_machine.specs.declared.machine.End.TheVariants as ends
 use Rattle.amd64_machine.specs.Machine.{State, On, Over, Ending, ByService, MachineFault}
 
 abbrev pub ending_answer : Ending → End
 ending_answer (ByService (Returned value)) = ends.Returned
-ending_answer (ByService (Raised class reason)) = ends.Raised (class_seen class)
+ending_answer (ByService (Raised class reason)) = ends.Raised class
 ending_answer (ByService HeapFull) = ends.HeapFull
 ending_answer (ByService StackFull) = ends.StackFull
 ending_answer (MachineFault at) = ends.MachineFault at
@@ -34,12 +34,6 @@ displayed_by (Over ending displayed) = displayed
 abbrev pub lines : Names → List Term → List ℕ
 lines names terms = flat_map (line_of names) terms
 
--- the word before a result
-abbrev pub class_word : Class → List ℕ
-class_word error = codes "error "
-class_word exit = codes "exit "
-class_word throw = codes "throw "
-
 -- the run ended with a value or a raise
 abbrev pub HasResult : State → Type 0
 HasResult (Over (ByService (Returned value)) displayed) = Unit {0}
@@ -48,6 +42,6 @@ HasResult _ = ⊥
 
 -- the line of the result that a run ended with, where it did
 abbrev pub result_line : Names → State → List ℕ
-result_line names (Over (ByService (Returned value)) displayed) = codes "value " ++ line_of names value
-result_line names (Over (ByService (Raised class reason)) displayed) = class_word class ++ line_of names reason
+result_line names (Over (ByService (Returned value)) displayed) = codes "value" ++ codes " " ++ line_of names value
+result_line names (Over (ByService (Raised class reason)) displayed) = class_name class ++ codes " " ++ line_of names reason
 result_line names _ = []

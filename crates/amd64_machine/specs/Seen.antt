@@ -2,15 +2,14 @@
 use Rattle.std.specs.Prelude.{◌≡◌, ℕ, ◌<◌, List, [], ◌++◌, All, Option, Some, None, length, slice_index, codes}
 use Rattle.hipe_terms.specs.Terms.{Term, atom}
 use Rattle.hipe_terms.specs.Shown.{Names}
-use Rattle.hipe_terms.specs.Outcome.{Class, error, exit, throw}
+use Rattle.hipe_terms.specs.declared.class.Class.TheVariants.{Error}
+use Rattle.hipe_terms.specs.Classes.{class_name}
 use Rattle.heap_terms.specs.Shapes.{Symbols}
 use Rattle.heap_terms.specs.Terms.{term_at}
 use Rattle.heap_terms.specs.Seen.{symbols_of}
 use Rattle.heap_terms.specs.declared.symbols.Symbols.{Symbols as SymbolTable}
-use Rattle.machine_services.specs.Services.{Service, Ends, Raised, HeapFull, StackFull, returned, raised}
+use Rattle.machine_services.specs.Services.{Effect, Ends, Raised, HeapFull, StackFull, returned, raised}
 use Rattle.machine_services.specs.Served.{line_of}
-use Rattle.machine_services.specs.declared.services.Class.{Class as ClassCode}
-use Rattle.machine_services.specs.declared.services.Class.TheVariants as classes
 use Rattle.amd64_form.specs.declared.inst.Inst.{Inst}
 use Rattle.amd64_machine.specs.declared.machine.End.{End}
 use Rattle.amd64_machine.specs.declared.machine.End.TheVariants as ends
@@ -22,7 +21,6 @@ use Rattle.amd64_machine.specs.declared.state.Ended.TheVariants as ways
 use Rattle.amd64_machine.specs.declared.cache.Cached.{Cached}
 use Rattle.amd64_machine.specs.Fetch.{Fetched, Nothing, Here, fetch}
 use Rattle.amd64_machine.specs.Machine.{Registers, State, On, Over, ByService, MachineFault, Step, Goes, Stops, Calls}
-use Rattle.amd64_machine.specs.Result.{class_word}
 use Rattle.amd64_machine.specs.Outcome.{Seen}
 
 abbrev pub registers_seen : List ℕ → Registers
@@ -54,13 +52,8 @@ IsKept old new did.Goes = Unit {0}
 IsKept old new did.Stops = new ≡ old
 IsKept old new (did.Calls next) = new ≡ old
 
-abbrev pub class_of : ClassCode → Class
-class_of classes.Error = error
-class_of classes.Exit = exit
-class_of classes.Throw = throw
-
 -- a run that a service ended, or that has no next state from an address
-abbrev pub over : ℕ → Service → List Term → State
+abbrev pub over : ℕ → Effect → List Term → State
 over at (Ends ending) displayed = Over (ByService ending) displayed
 over at _ displayed = Over (MachineFault at) displayed
 
@@ -70,8 +63,8 @@ state_at core displayed = On core.at (registers_seen core.registers) core.flags 
 abbrev pub state_ended : Symbols → Core → Ended → List Term → State
 state_ended symbols core (ways.Returned word) displayed = over core.at (returned (term_at symbols core.region.heap word)) displayed
 state_ended symbols core (ways.Raised class word) displayed =
-    over core.at (raised (Some (class_of class)) (term_at symbols core.region.heap word)) displayed
-state_ended symbols core ways.Undefined displayed = Over (ByService (Raised error (atom (codes "undef")))) displayed
+    over core.at (raised (Some class) (term_at symbols core.region.heap word)) displayed
+state_ended symbols core ways.Undefined displayed = Over (ByService (Raised Error (atom (codes "undef")))) displayed
 state_ended symbols core ways.HeapFull displayed = Over (ByService HeapFull) displayed
 state_ended symbols core ways.StackFull displayed = Over (ByService StackFull) displayed
 state_ended symbols core (ways.MachineFault at) displayed = Over (MachineFault at) displayed
@@ -105,7 +98,7 @@ machine_of m = machine_seen (symbols_of m.symbols) m.core m.ended
 abbrev pub end_seen : Ended → End
 end_seen (ways.Returned word) = ends.Returned
 end_seen (ways.Raised class word) = ends.Raised class
-end_seen ways.Undefined = ends.Raised classes.Error
+end_seen ways.Undefined = ends.Raised Error
 end_seen ways.HeapFull = ends.HeapFull
 end_seen ways.StackFull = ends.StackFull
 end_seen (ways.MachineFault at) = ends.MachineFault at
@@ -122,11 +115,11 @@ HasTerm symbols heap (Some (ways.Returned word)) = (t : Term) × (term_at symbol
 HasTerm symbols heap (Some (ways.Raised class word)) = (t : Term) × (term_at symbols heap word ≡ Some t)
 HasTerm symbols heap _ = Unit {0}
 
--- the line of a term behind a text, if there is a term
+-- the line of a term behind a name, if there is a term
 abbrev pub term_line : List ℕ → Names → Option Term → List ℕ
-term_line before names None = []
-term_line before names (Some t) = before ++ line_of names t
+term_line kind names None = []
+term_line kind names (Some t) = kind ++ codes " " ++ line_of names t
 
 -- the line of a call that isn't exported
 abbrev pub undefined_line : Names → List ℕ
-undefined_line names = class_word error ++ line_of names (atom (codes "undef"))
+undefined_line names = class_name Error ++ codes " " ++ line_of names (atom (codes "undef"))

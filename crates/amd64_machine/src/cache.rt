@@ -4,7 +4,7 @@ ghost use Rattle.amd64_machine.specs.Fetch.{fetch, FetchesCode};
 ghost use Rattle.amd64_machine.specs.Seen.{fetched_seen, IsCache};
 
 use amd64_form::{Inst, decode};
-use hipe_edge::Memory;
+use hipe_base::Memory;
 use region_memory::layout::CODE_BEGIN;
 use std::alloc::Global;
 

@@ -4,8 +4,10 @@
 // to, `machine_step` what a step does, and `machine_run` where at most n steps lead. It speaks of lists and numbers, and shares with
 // the code only constants and the table of forms: `fetches_code` says what is fetched by the encodings alone.
 //
-// Promised here: `load` makes the state `start`, `step` and `run` go exactly where `machine_step` and `machine_run` go, write the
+// Promises: `load` makes the state `start`, `step` and `run` go exactly where `machine_step` and `machine_run` go, write the
 // lines of what is displayed and answer how the run ended, and `write_result` writes the line of the result that it ended with.
+//
+// May touch: memory, and the sink that it is lent.
 //
 // Files:
 //   arithmetic.rt results of operations, their flags, and conditions
@@ -30,5 +32,4 @@ pub mod state;
 pub use arithmetic::conditions_compare;
 pub use cache::fetches_code;
 pub use machine::{End, Machine, runs_go_on};
-pub use machine_services::Class;
 pub use result::ResultFault;

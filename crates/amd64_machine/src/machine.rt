@@ -1,26 +1,25 @@
 // The machine: load, step, run.
-ghost use Rattle.std.specs.Prelude.{◌≡◌, ◌≤◌, [], All, IfOk, OnOk, OnErr, IsErrOf, None, length};
+ghost use Rattle.std.specs.Prelude.{◌≡◌, ◌≤◌, [], All, IfOk, OnOk, OnErr, IsErrOf, length};
 ghost use Rattle.std.specs.Io.KnownBytes.{Appends};
-ghost use Rattle.region_memory.specs.declared.layout.TheConstants.{FUNCTION_LIMIT};
+ghost use Rattle.region_memory.specs.declared.layout.TheConstants.{TABLE_LIMIT};
 ghost use Rattle.hipe_terms.specs.Constants.{IsConstant};
 ghost use Rattle.hipe_edge.specs.Bytes.{AppendsPrefix};
 ghost use Rattle.hipe_edge.specs.Counts.{Rises};
-ghost use Rattle.image_load.specs.Loading.{loaded};
 ghost use Rattle.heap_terms.specs.Shapes.{Symbols as SymbolsSeen};
 ghost use Rattle.amd64_machine.specs.Laws.{RunsGoOn};
-ghost use Rattle.amd64_machine.specs.Loading.{start};
 ghost use Rattle.amd64_machine.specs.Result.{HasResult, result_line};
+ghost use Rattle.amd64_machine.specs.Steps.{IsLoaded};
 
 use super::cache::{Cached, new_cache};
 use super::result::{ResultFault, write_ended};
 use super::running::{advance, run_on};
 use super::state::{Core, Ended, begun, end_of};
 use heap_terms::Symbols;
-use hipe_edge::{Memory, Sink};
-use hipe_terms::Call;
+use hipe_base::Memory;
+use hipe_edge::Sink;
+use hipe_terms::{Call, Class};
 use image_link::Image;
 use image_load::{Loaded, load_program};
-use machine_services::Class;
 use region_memory::Region;
 use std::alloc::Global;
 use std::marker::Model;
@@ -40,7 +39,7 @@ pub enum End {
     StepsSpent,
     /// There is no next state at the address `at`: no instruction stands there, or what it does isn't allowed: an access
     /// outside the regions or at no multiple of 8, a write to a region that is only read, a division by 0 or whose quotient
-    /// doesn't fit, a jump on a flag that isn't known, a service with another number than 0 to 9 or with words that are none of
+    /// doesn't fit, a jump on a flag that isn't known, a service with a number that none has, or with words that are none of
     /// its terms.
     MachineFault { at: u64 },
     /// A line that the program displayed couldn't be written.
@@ -90,9 +89,8 @@ impl Machine {
     /// `Memory` where there was none for the program.
     pub fn load(alloc: Global, image: Image, call: &Call, region: Region) -> Result<Machine, Memory>
         requires constants { All IsConstant call.now.args }
-        requires functions { length image.functions ≤ FUNCTION_LIMIT }
-        ensures { IfOk result (λ m. ((machine_of m).symbols ≡ (loaded image call.now region).symbols)
-            × ((machine_of m).state [] ≡ start image call.now region) × ((machine_of m).stopped ≡ None)) }
+        requires functions { length image.functions ≤ TABLE_LIMIT }
+        ensures { IfOk result (λ m. IsLoaded image call.now region (machine_of m)) }
     {
         let Loaded {
             region,
@@ -113,7 +111,7 @@ impl Machine {
     /// changes, and nothing is written. `StepsSpent` never comes. A term that the instruction displays is written to `out` in a line of
     /// its own. It takes no memory, but where the instruction calls a service.
     ///
-    /// A write that fails and want of memory stop the machine in the state before the instruction: every later call answers the same.
+    /// A write that fails and a lack of memory stop the machine in the state before the instruction: every later call answers the same.
     pub fn step<K: Sink>(&mut self, alloc: Global, out: &mut K) -> Option<End>
         ensures step { Stepped (machine_of self.old) (machine_of self.new)
             (stream (K.written out.old) (K.written out.new) (K.faults out.old) (K.faults out.new)) result }
@@ -134,7 +132,7 @@ impl Machine {
     /// further `run` goes on. Any other end is answered again by every later call: nothing changes, and nothing is written. Each term
     /// that is displayed is written to `out` in a line of its own.
     ///
-    /// A write that fails and want of memory stop the machine in the state before the instruction in which they came.
+    /// A write that fails and a lack of memory stop the machine in the state before the instruction in which they came.
     pub fn run<K: Sink>(&mut self, alloc: Global, n: u64, out: &mut K) -> End
         ensures run { Ran n (machine_of self.old) (machine_of self.new)
             (stream (K.written out.old) (K.written out.new) (K.faults out.old) (K.faults out.new)) result }
@@ -163,7 +161,7 @@ impl Machine {
     ///
     /// # Errors
     ///
-    /// - `WriteFault` where a write failed: then a front of the line was written.
+    /// - `WriteFault` where a write failed: then a prefix of the line was written.
     /// - `Memory` where there was no memory for the line: then nothing was written.
     pub fn write_result<K: Sink>(&self, alloc: Global, out: &mut K) -> Result<(), ResultFault>
         requires { HasResult ((machine_of self.now).state []) }

@@ -1,12 +1,10 @@
 // What each instruction does.
-ghost use Rattle.std.specs.Prelude.{◌≡◌, ◌*◌, ◌<◌};
-ghost use Rattle.amd64_form.specs.declared.reg.Reg.{Reg};
+ghost use Rattle.std.specs.Prelude.{◌≡◌, ◌<◌};
 ghost use Rattle.region_memory.specs.Regions.{word_at};
 ghost use Rattle.region_memory.specs.Regions.{with_word as regions_with};
-ghost use Rattle.amd64_machine.specs.Arithmetic.{wrap, signed, double, no_flags, flags_of, flags_of_product, result_of, shifted, holds};
-ghost use Rattle.amd64_machine.specs.Arithmetic.{divided as divided_by};
+ghost use Rattle.amd64_machine.specs.Arithmetic.{holds};
 ghost use Rattle.amd64_machine.specs.Fetch.{Here};
-ghost use Rattle.amd64_machine.specs.Machine.{Goes, act, below, word_in, put_result, loaded, stored, pushed, popped, gone_back, branched, quotient_put, unary};
+ghost use Rattle.amd64_machine.specs.Machine.{Goes, act, loaded, stored, branched, unary, binary, divide, multiply, shift, push, pop, go_back};
 ghost use Rattle.amd64_machine.specs.Machine.{displaced as displaced_to};
 ghost use Rattle.amd64_machine.specs.Machine.{put as registers_with};
 ghost use Rattle.amd64_machine.specs.Seen.{IsKept, step_seen, registers_seen};
@@ -70,9 +68,7 @@ fn store(core: &mut Core, address: u64, word: u64, next: u64) -> Did
 
 // Does an operation of a register and a word, and goes on.
 fn binary(core: &mut Core, op: BinaryOp, to: Reg, word: u64, next: u64) -> Did
-    ensures step { let registers = registers_seen core.old.registers in
-        step_seen core.new result ≡ Goes next (put_result to (result_of op (word_in registers to) word) registers)
-        (flags_of op (word_in registers to) word) core.old.region }
+    ensures step { step_seen core.new result ≡ binary next op to word (registers_seen core.old.registers) core.old.region }
     ensures kept { IsKept core.old core.new result }
 {
     let before = get(&core.registers, to);
@@ -85,9 +81,7 @@ fn binary(core: &mut Core, op: BinaryOp, to: Reg, word: u64, next: u64) -> Did
 
 // Divides rdx:rax by a word and goes on.
 fn divide(core: &mut Core, by: u64, next: u64) -> Did
-    ensures step { let registers = registers_seen core.old.registers in
-        step_seen core.new result ≡ quotient_put next registers core.old.region
-        (divided_by (double (word_in registers Reg.Rdx) (word_in registers Reg.Rax)) (signed by)) }
+    ensures step { step_seen core.new result ≡ divide next by (registers_seen core.old.registers) core.old.region }
     ensures kept { IsKept core.old core.new result }
 {
     let high = get(&core.registers, Reg::Rdx);
@@ -121,9 +115,7 @@ fn unary(core: &mut Core, op: UnaryOp, of: Reg, next: u64) -> Did
 
 // Multiplies a register by a word and goes on.
 fn multiply(core: &mut Core, to: Reg, word: u64, next: u64) -> Did
-    ensures step { let registers = registers_seen core.old.registers in
-        step_seen core.new result ≡ Goes next (registers_with to (wrap (word_in registers to * word)) registers)
-        (flags_of_product (word_in registers to) word) core.old.region }
+    ensures step { step_seen core.new result ≡ multiply next to word (registers_seen core.old.registers) core.old.region }
     ensures kept { IsKept core.old core.new result }
 {
     let before = get(&core.registers, to);
@@ -134,9 +126,7 @@ fn multiply(core: &mut Core, to: Reg, word: u64, next: u64) -> Did
 // Shifts a register and goes on.
 fn shift(core: &mut Core, op: ShiftOp, to: Reg, count: u8, next: u64) -> Did
     requires { count < 64 }
-    ensures step { let registers = registers_seen core.old.registers in
-        step_seen core.new result ≡ Goes next (registers_with to (shifted op (word_in registers to) count) registers)
-        no_flags core.old.region }
+    ensures step { step_seen core.new result ≡ shift next op to count (registers_seen core.old.registers) core.old.region }
     ensures kept { IsKept core.old core.new result }
 {
     let before = get(&core.registers, to);
@@ -146,9 +136,7 @@ fn shift(core: &mut Core, op: ShiftOp, to: Reg, count: u8, next: u64) -> Did
 
 // Pushes a word and goes on.
 fn push(core: &mut Core, word: u64, next: u64) -> Did
-    ensures step { let registers = registers_seen core.old.registers in
-        step_seen core.new result ≡ pushed next registers core.old.flags
-        (regions_with core.old.region (below (word_in registers Reg.Rsp)) word) }
+    ensures step { step_seen core.new result ≡ push next word (registers_seen core.old.registers) core.old.flags core.old.region }
     ensures kept { IsKept core.old core.new result }
 {
     let top = get(&core.registers, Reg::Rsp).wrapping_sub(8);
@@ -160,9 +148,7 @@ fn push(core: &mut Core, word: u64, next: u64) -> Did
 
 // Pops a word into a register and goes on.
 fn pop(core: &mut Core, r: Reg, next: u64) -> Did
-    ensures step { let registers = registers_seen core.old.registers in
-        step_seen core.new result ≡ popped next r registers core.old.flags core.old.region
-        (word_at core.old.region (word_in registers Reg.Rsp)) }
+    ensures step { step_seen core.new result ≡ pop next r (registers_seen core.old.registers) core.old.flags core.old.region }
     ensures kept { IsKept core.old core.new result }
 {
     let top = get(&core.registers, Reg::Rsp);
@@ -175,9 +161,7 @@ fn pop(core: &mut Core, r: Reg, next: u64) -> Did
 
 // Pops an address and goes on there.
 fn go_back(core: &mut Core) -> Did
-    ensures step { let registers = registers_seen core.old.registers in
-        step_seen core.new result ≡ gone_back registers core.old.flags core.old.region
-        (word_at core.old.region (word_in registers Reg.Rsp)) }
+    ensures step { step_seen core.new result ≡ go_back (registers_seen core.old.registers) core.old.flags core.old.region }
     ensures kept { IsKept core.old core.new result }
 {
     let top = get(&core.registers, Reg::Rsp);

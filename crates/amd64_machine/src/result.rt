@@ -1,36 +1,35 @@
 // The line of a result.
-ghost use Rattle.std.specs.Prelude.{◌≡◌, ◌≤◌, [], length, OnOk, OnErr, IsErrOf};
+ghost use Rattle.std.specs.Prelude.{◌≡◌, ◌≤◌, length, OnOk, OnErr, IsErrOf};
 ghost use Rattle.std.specs.Io.KnownBytes.{Appends};
 ghost use Rattle.hipe_edge.specs.Bytes.{AppendsPrefix};
 ghost use Rattle.hipe_edge.specs.Counts.{Rises};
 ghost use Rattle.hipe_terms.specs.Shown.{Names};
 ghost use Rattle.region_memory.specs.declared.layout.TheConstants.{HEAP_LIMIT};
 ghost use Rattle.heap_terms.specs.Seen.{symbols_of};
-ghost use Rattle.heap_terms.specs.Terms.{term_at};
-ghost use Rattle.amd64_machine.specs.Result.{class_word, result_line};
-ghost use Rattle.amd64_machine.specs.Seen.{class_of, state_ended, state_seen, term_line, undefined_line};
+ghost use Rattle.amd64_machine.specs.Seen.{undefined_line};
+ghost use Rattle.amd64_machine.specs.Steps.{word_line, ended_line, seen_line};
 ghost use Rattle.amd64_machine.specs.declared.result.ResultFault.{ResultFault};
 ghost use Rattle.amd64_machine.specs.declared.result.ResultFault.TheVariants.{Memory as NoMemory, WriteFault as NotWritten};
 
 use super::state::{Core, Ended};
 use heap_terms::{Symbols, show_word};
+use hipe_base::Memory;
 use hipe_edge::{Sink, WriteFault, write_line};
-use machine_services::Class;
-use std::alloc::{AllocError, Global};
+use std::alloc::Global;
 
 /// Why the line of a result wasn't written.
 #[derive(Clone, Copy, Debug, PartialEq, Eq)]
 pub enum ResultFault {
-    /// A write failed: a front of the line was written.
+    /// A write failed: a prefix of the line was written.
     WriteFault,
     /// There was no memory for the line: nothing was written.
     Memory,
 }
 
-impl From<AllocError> for ResultFault {
+impl From<Memory> for ResultFault {
     ghost from_gives = { λ _ e. e ≡ NoMemory };
 
-    fn from(_error: AllocError) -> ResultFault {
+    fn from(_error: Memory) -> ResultFault {
         ResultFault::Memory
     }
 }
@@ -43,21 +42,10 @@ impl From<WriteFault> for ResultFault {
     }
 }
 
-// The word before what was raised.
-fn class_word(class: Class) -> &'static str
-    ensures { result.now ≡ class_word (class_of class) }
-{
-    match class {
-        Class::Error => "error ",
-        Class::Exit => "exit ",
-        Class::Throw => "throw ",
-    }
-}
-
-// Writes the text of the term for which a word stands behind another text, in a line. Where it stands for none, it writes nothing.
+// Writes how a run ended and the term for which a word stands, in a line. Where it stands for none, it writes nothing.
 fn write_term<K: Sink>(
     alloc: Global,
-    before: &str,
+    kind: &str,
     symbols: &Symbols,
     heap: &[u64],
     word: u64,
@@ -65,15 +53,16 @@ fn write_term<K: Sink>(
 ) -> Result<(), ResultFault>
     requires { length heap.now ≤ HEAP_LIMIT }
     ensures ok { OnOk result (Appends (K.written out.old) (K.written out.new)
-        (term_line before.now (symbols_of symbols.now).definitions (term_at (symbols_of symbols.now) heap.now word))) }
+        (word_line kind.now (symbols_of symbols.now) heap.now word)) }
     ensures err { OnErr result (AppendsPrefix (K.written out.old) (K.written out.new)
-        (term_line before.now (symbols_of symbols.now).definitions (term_at (symbols_of symbols.now) heap.now word))) }
+        (word_line kind.now (symbols_of symbols.now) heap.now word)) }
     ensures write_fault { IsErrOf result ResultFault.WriteFault → Rises (K.faults out.old) (K.faults out.new) }
     ensures memory { IsErrOf result ResultFault.Memory → out.new ≡ out.old }
     ensures faults_never_fall { K.faults out.old ≤ K.faults out.new }
 {
     let mut line = String::new(alloc);
-    line.push_str(before)?;
+    line.push_str(kind)?;
+    line.push_str(" ")?;
     if !show_word(alloc, symbols, heap, word, &mut line)? {
         return Ok(());
     }
@@ -105,9 +94,9 @@ fn write_over<K: Sink>(
     out: &mut K,
 ) -> Result<(), ResultFault>
     ensures ok { OnOk result (Appends (K.written out.old) (K.written out.new)
-        (result_line (symbols_of symbols.now).definitions (state_ended (symbols_of symbols.now) core.now ended []))) }
+        (ended_line (symbols_of symbols.now) core.now ended)) }
     ensures err { OnErr result (AppendsPrefix (K.written out.old) (K.written out.new)
-        (result_line (symbols_of symbols.now).definitions (state_ended (symbols_of symbols.now) core.now ended []))) }
+        (ended_line (symbols_of symbols.now) core.now ended)) }
     ensures write_fault { IsErrOf result ResultFault.WriteFault → Rises (K.faults out.old) (K.faults out.new) }
     ensures memory { IsErrOf result ResultFault.Memory → out.new ≡ out.old }
     ensures faults_never_fall { K.faults out.old ≤ K.faults out.new }
@@ -115,10 +104,8 @@ fn write_over<K: Sink>(
     core.region.limits();
     let heap = core.region.heap();
     match ended {
-        Ended::Returned(word) => write_term(alloc, "value ", symbols, heap, word, out),
-        Ended::Raised(class, word) => {
-            write_term(alloc, class_word(class), symbols, heap, word, out)
-        }
+        Ended::Returned(word) => write_term(alloc, "value", symbols, heap, word, out),
+        Ended::Raised(class, word) => { write_term(alloc, class.name(), symbols, heap, word, out) }
         Ended::Undefined => write_undefined(out),
         Ended::HeapFull => Ok(()),
         Ended::StackFull => Ok(()),
@@ -137,9 +124,9 @@ pub(crate) fn write_ended<K: Sink>(
     out: &mut K,
 ) -> Result<(), ResultFault>
     ensures ok { OnOk result (Appends (K.written out.old) (K.written out.new)
-        (result_line (symbols_of symbols.now).definitions (state_seen (symbols_of symbols.now) core.now ended []))) }
+        (seen_line (symbols_of symbols.now) core.now ended)) }
     ensures err { OnErr result (AppendsPrefix (K.written out.old) (K.written out.new)
-        (result_line (symbols_of symbols.now).definitions (state_seen (symbols_of symbols.now) core.now ended []))) }
+        (seen_line (symbols_of symbols.now) core.now ended)) }
     ensures write_fault { IsErrOf result ResultFault.WriteFault → Rises (K.faults out.old) (K.faults out.new) }
     ensures memory { IsErrOf result ResultFault.Memory → out.new ≡ out.old }
     ensures faults_never_fall { K.faults out.old ≤ K.faults out.new }

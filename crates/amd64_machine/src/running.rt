@@ -1,11 +1,10 @@
 // Steps of a run that goes on.
-ghost use Rattle.std.specs.Prelude.{◌≡◌, ◌≤◌, None, unwrap_or};
+ghost use Rattle.std.specs.Prelude.{◌≡◌, ◌≤◌};
 ghost use Rattle.heap_terms.specs.Seen.{symbols_of};
 ghost use Rattle.amd64_machine.specs.Fetch.{Here, fetch};
 ghost use Rattle.hipe_edge.specs.Streams.{stream};
-ghost use Rattle.amd64_machine.specs.Outcome.{Stepped, Ran};
-ghost use Rattle.amd64_machine.specs.Seen.{IsCache, HasTerm, machine_seen, ends_seen};
-ghost use Rattle.amd64_machine.specs.declared.machine.End.TheVariants.{StepsSpent};
+ghost use Rattle.amd64_machine.specs.Seen.{IsCache, HasTerm};
+ghost use Rattle.amd64_machine.specs.Steps.{StepsTo, RunsTo};
 
 use super::cache::{Cached, fetched};
 use super::perform::perform;
@@ -26,8 +25,8 @@ fn carry_out<K: Sink>(
     out: &mut K,
 ) -> Option<Ended>
     requires { Here inst next ≡ fetch core.old.region.code core.old.at }
-    ensures step { Stepped (machine_seen (symbols_of symbols.now) core.old None) (machine_seen (symbols_of symbols.now) core.new result)
-        (stream (K.written out.old) (K.written out.new) (K.faults out.old) (K.faults out.new)) (ends_seen result) }
+    ensures step { StepsTo (symbols_of symbols.now) core.old core.new result
+        (stream (K.written out.old) (K.written out.new) (K.faults out.old) (K.faults out.new)) }
     ensures code { core.new.region.code ≡ core.old.region.code }
     ensures term { HasTerm (symbols_of symbols.now) core.new.region.heap result }
     ensures faults_never_fall { K.faults out.old ≤ K.faults out.new }
@@ -48,8 +47,8 @@ pub(crate) fn advance<K: Sink>(
     out: &mut K,
 ) -> Option<Ended>
     requires { IsCache core.old.region.code cache.old.items }
-    ensures step { Stepped (machine_seen (symbols_of symbols.now) core.old None) (machine_seen (symbols_of symbols.now) core.new result)
-        (stream (K.written out.old) (K.written out.new) (K.faults out.old) (K.faults out.new)) (ends_seen result) }
+    ensures step { StepsTo (symbols_of symbols.now) core.old core.new result
+        (stream (K.written out.old) (K.written out.new) (K.faults out.old) (K.faults out.new)) }
     ensures cache { IsCache core.new.region.code cache.new.items }
     ensures term { HasTerm (symbols_of symbols.now) core.new.region.heap result }
     ensures faults_never_fall { K.faults out.old ≤ K.faults out.new }
@@ -70,9 +69,8 @@ pub(crate) fn run_on<K: Sink>(
     out: &mut K,
 ) -> Option<Ended>
     requires { IsCache core.old.region.code cache.old.items }
-    ensures run { Ran n (machine_seen (symbols_of symbols.now) core.old None) (machine_seen (symbols_of symbols.now) core.new result)
-        (stream (K.written out.old) (K.written out.new) (K.faults out.old) (K.faults out.new))
-        (unwrap_or (ends_seen result) StepsSpent) }
+    ensures run { RunsTo n (symbols_of symbols.now) core.old core.new result
+        (stream (K.written out.old) (K.written out.new) (K.faults out.old) (K.faults out.new)) }
     ensures cache { IsCache core.new.region.code cache.new.items }
     ensures term { HasTerm (symbols_of symbols.now) core.new.region.heap result }
     ensures faults_never_fall { K.faults out.old ≤ K.faults out.new }

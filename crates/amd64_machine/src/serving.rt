@@ -1,31 +1,26 @@
 // What a call of a service does.
-ghost use Rattle.std.specs.Prelude.{◌≡◌, ◌≤◌, List, None, IfOk, OnErr};
-ghost use Rattle.amd64_form.specs.declared.reg.Reg.{Reg};
+ghost use Rattle.std.specs.Prelude.{◌≡◌, ◌≤◌, List, IfOk, OnErr};
 ghost use Rattle.hipe_terms.specs.Terms.{Term};
 ghost use Rattle.heap_terms.specs.Seen.{symbols_of};
-ghost use Rattle.machine_services.specs.Served.{IsServed};
 ghost use Rattle.amd64_machine.specs.Arithmetic.{no_flags};
 ghost use Rattle.amd64_machine.specs.Fetch.{fetch};
-ghost use Rattle.amd64_machine.specs.Machine.{On, Calls, act, answered, called, grown, word_in};
+ghost use Rattle.amd64_machine.specs.Machine.{On, Calls, act, answered, grown};
 ghost use Rattle.hipe_edge.specs.Streams.{stream};
-ghost use Rattle.amd64_machine.specs.Outcome.{Stepped};
-ghost use Rattle.amd64_machine.specs.Seen.{HasTerm, ends_seen, machine_seen, registers_seen, state_at};
+ghost use Rattle.amd64_machine.specs.Seen.{HasTerm, registers_seen, state_at};
+ghost use Rattle.amd64_machine.specs.Steps.{StepsTo, WasServed};
 
 use super::state::{Core, Ended, Flags, get, put};
 use amd64_form::Reg;
 use heap_terms::Symbols;
+use heap_terms::tags::TRUE_WORD;
+use hipe_base::Memory;
 use hipe_edge::{Sink, write_line};
 use machine_services::{Served, ServiceCall, serve};
-use std::alloc::{AllocError, Global};
-
-// The word of the atom `'true'`, which is the first atom of every program.
-const TRUE_WORD: u64 = 11;
+use std::alloc::Global;
 
 // Calls the service that the registers name.
-fn call_service(core: &mut Core, symbols: &Symbols, alloc: Global) -> Result<Served, AllocError>
-    ensures served { IfOk result (λ s. IsServed (symbols_of symbols.now).definitions core.old.region.heap
-        (word_in (registers_seen core.old.registers) Reg.R15)
-        (called (symbols_of symbols.now) (registers_seen core.old.registers) core.old.region) s core.new.region.heap) }
+fn call_service(core: &mut Core, symbols: &Symbols, alloc: Global) -> Result<Served, Memory>
+    ensures served { IfOk result (λ s. WasServed (symbols_of symbols.now) core.old s core.new) }
     ensures others { core.new ≡ record core.old { region = record core.old.region { heap = core.new.region.heap } } }
     ensures memory { OnErr result (core.new ≡ core.old) }
 {
@@ -76,8 +71,8 @@ pub(crate) fn serve_call<K: Sink>(
     out: &mut K,
 ) -> Option<Ended>
     requires { act (fetch core.old.region.code core.old.at) (registers_seen core.old.registers) core.old.flags core.old.region ≡ Calls next }
-    ensures step { Stepped (machine_seen (symbols_of symbols.now) core.old None) (machine_seen (symbols_of symbols.now) core.new result)
-        (stream (K.written out.old) (K.written out.new) (K.faults out.old) (K.faults out.new)) (ends_seen result) }
+    ensures step { StepsTo (symbols_of symbols.now) core.old core.new result
+        (stream (K.written out.old) (K.written out.new) (K.faults out.old) (K.faults out.new)) }
     ensures code { core.new.region.code ≡ core.old.region.code }
     ensures term { HasTerm (symbols_of symbols.now) core.new.region.heap result }
     ensures faults_never_fall { K.faults out.old ≤ K.faults out.new }

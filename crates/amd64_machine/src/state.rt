@@ -11,8 +11,8 @@ ghost use Rattle.amd64_machine.specs.Seen.{HasTerm, end_seen, ends_seen, registe
 
 use super::machine::End;
 use amd64_form::Reg;
+use hipe_terms::Class;
 use image_load::Start;
-use machine_services::Class;
 use region_memory::Region;
 
 /// The four flags that instructions set and test, each known or unknown.
@@ -122,7 +122,7 @@ pub(crate) fn end_of(ended: Option<Ended>) -> Option<End>
     }
 }
 
-// The registers at the first instruction: the words of the arguments, the heap's free place and the stack's top.
+// The registers at the first instruction: the words of the arguments, the heap pointer and the stack's top.
 #[tactic(auto, using(crate::proofs::Start::zero_registers))]
 fn first_registers(arguments: [u64; 4], free: u64, top: u64) -> Registers
     ensures { registers_seen result ≡ registers_first arguments free top }

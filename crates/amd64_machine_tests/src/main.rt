@@ -11,6 +11,13 @@
 // as bits. On a processor, with a trap in place of service 0, 181 of the programs ended with the same integer, and 26 faulted at the
 // same place. The ends of the others are by hand from the machine's definition: they use other services or values, test flags that
 // it leaves unknown, or use addresses that it alone refuses.
+//
+// Promises: nothing.
+//
+// May touch: memory, standard input and output.
+//
+// Files:
+//   tests.rt   steps one by one, runs that go on, lines that aren't written, and loading
 #![tactic(auto)]
 
 ghost use Rattle.std.specs.Prelude.{◌≡◌, ◌<◌, [], length, IfOk};
@@ -23,7 +30,7 @@ use hipe_edge::StdSink;
 use hipe_terms::{Atom, Call};
 use image_link::{Code, Image, Names, link};
 use region_memory::Region;
-use region_memory::layout::{CODE_BEGIN, FUNCTION_LIMIT};
+use region_memory::layout::{CODE_BEGIN, TABLE_LIMIT};
 use sqlite_items::Items;
 use std::alloc::Global;
 use std::env;
@@ -103,7 +110,7 @@ fn named(alloc: Global, name: &str) -> anyhow::Result<Call>
 fn loaded(alloc: Global, program: Vec<u8>, name: &str) -> anyhow::Result<Machine> {
     let call = named(alloc, name)?;
     let image = image(alloc, program)?;
-    if image.functions().len() > FUNCTION_LIMIT {
+    if image.functions().len() > TABLE_LIMIT {
         return Err(anyhow::anyhow!("too many functions"));
     }
     let region = Region::open(alloc, HEAP, STACK)?;

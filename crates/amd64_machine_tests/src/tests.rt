@@ -1,7 +1,8 @@
 // What no program of the input shows: steps one by one, runs that go on, lines that aren't written, and loading.
 use super::{PROGRAM_BEGIN, loaded};
-use amd64_machine::{Class, End, Machine, conditions_compare, fetches_code, runs_go_on};
+use amd64_machine::{End, Machine, conditions_compare, fetches_code, runs_go_on};
 use hipe_edge::{CountSink, MemSink};
+use hipe_terms::Class;
 use region_memory::layout::CODE_BEGIN;
 use std::alloc::Global;
 use std::test::Fail;

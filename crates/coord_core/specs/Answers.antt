@@ -26,14 +26,14 @@ pub record IsGot {V : Type 0} (l : LatticeMeaning V) (s : SystemMeaning V) (old 
   pub node_in_range : t.node < s.nodes
   pub one_for_each : length t.snapshot.items ≡ length (s.needs t.node)
 
--- what a take by the worker answers: a ticket exactly where a node waits, idle exactly where none waits and some
--- tickets are out, and done exactly where there is neither
+-- what a take by the worker answers: a ticket if and only if a node waits, idle if and only if none waits and some
+-- tickets are out, and done if and only if there is neither
 abbrev pub IsTake : {V : Type 0} → LatticeMeaning V → SystemMeaning V → State V → ℕ → Taken V → State V → Type 0
 IsTake l s old worker (Got t) new = IsGot l s old worker t new
 IsTake l s old worker (Idle out) new = (old.queue ≡ []) × (out ≡ length old.out) × (0 < out) × (new ≡ old)
 IsTake l s old worker Done new = (old.queue ≡ []) × (old.out ≡ []) × (new ≡ old)
 
--- what a finish answers: the step is its finish, exactly where a ticket that is out has the same number, node, worker
+-- what a finish answers: the step is its finish, if and only if a ticket that is out has the same number, node, worker
 -- and snapshot
 abbrev pub IsEnd : {A V : Type 0} → LatticeMeaning V → SystemMeaning V → State V → FinishedView V → Ended A V → State V → Type 0
 IsEnd l s old f (Joined rises) new =

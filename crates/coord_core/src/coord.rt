@@ -11,7 +11,8 @@ use crate::join::join_outputs;
 use crate::queue::Queue;
 use crate::table::{started_queue, started_table, values_at};
 use crate::ticket::{Ticket, end_ticket, is_out};
-use lattice_laws::{Memory, System};
+use hipe_base::Memory;
+use lattice_laws::System;
 use std::alloc::Global;
 use std::marker::Model;
 

@@ -2,7 +2,8 @@ ghost use Rattle.std.specs.Prelude.{◌≡◌, ◌<◌, IfOk, IfErr, length};
 ghost use Rattle.coord_core.specs.Tickets.{ticket_view};
 
 use crate::ticket::Ticket;
-use lattice_laws::{Memory, System};
+use hipe_base::Memory;
+use lattice_laws::System;
 use std::alloc::Global;
 use std::marker::Model;
 

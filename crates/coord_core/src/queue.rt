@@ -2,7 +2,7 @@ ghost use Rattle.std.specs.Prelude.{◌≡◌, ◌<◌, ◌↔◌, IfOk, IsTrue,
 ghost use Rattle.std.specs.List.{All};
 ghost use Rattle.coord_core.specs.States.{with_node, with_nodes, is_next};
 
-use lattice_laws::Memory;
+use hipe_base::Memory;
 use std::alloc::Global;
 use std::collections::VecDeque;
 use std::marker::Model;

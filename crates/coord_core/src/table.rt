@@ -4,7 +4,8 @@ ghost use Rattle.coord_core.specs.Tables.{values_of, bottoms, numbers_below};
 ghost use Rattle.coord_core.specs.States.{started, is_started};
 
 use crate::queue::Queue;
-use lattice_laws::{Lattice, Memory, System};
+use hipe_base::Memory;
+use lattice_laws::{Lattice, System};
 use std::alloc::Global;
 
 /// What some cells of a table have, in the order of `cells`.

@@ -1,10 +1,14 @@
 // Two small systems, and the tests of the coordinator on them.
 //
-// src/level.rt     `Level`, the numbers from 0 to 3
-// src/pair.rt      `Pair`, two nodes of which each feeds the other
-// src/ring.rt      `Ring`, two nodes that are both started
-// src/tests.rt     the tests
-// specs/           what the three mean
+// Promises: each `impl` here keeps the laws of its trait; nothing else.
+//
+// May touch: memory alone.
+//
+// Files:
+//   level.rt   `Level`, the numbers from 0 to 3
+//   pair.rt    `Pair`, two nodes of which each feeds the other
+//   ring.rt    `Ring`, two nodes that are both started
+//   tests.rt   the tests
 #![tactic(auto)]
 
 mod level;

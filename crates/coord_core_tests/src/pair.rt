@@ -3,7 +3,8 @@ ghost use Rattle.coord_core_tests.specs.Pairs.{pair};
 ghost use Rattle.coord_core_tests.specs.PairLaws.{pair_is_system};
 
 use crate::level::Level;
-use lattice_laws::{Memory, System};
+use hipe_base::Memory;
+use lattice_laws::System;
 use std::alloc::Global;
 
 /// Node 0 needs cells 0 and 3 and gives 1 and 2; node 1 needs 2 and 1 and gives 3. Cell 0 starts with 1.

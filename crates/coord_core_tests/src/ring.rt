@@ -3,7 +3,8 @@ ghost use Rattle.coord_core_tests.specs.Rings.{ring};
 ghost use Rattle.coord_core_tests.specs.RingLaws.{ring_is_system};
 
 use crate::level::Level;
-use lattice_laws::{Memory, System};
+use hipe_base::Memory;
+use lattice_laws::System;
 use std::alloc::Global;
 
 /// Both nodes need cell 0, which starts with 1. Node 0 needs cell 2 and gives 1; node 1 needs cell 1 and gives 2.

@@ -4,9 +4,9 @@ use crate::level::Level;
 use crate::pair::Pair;
 use crate::ring::Ring;
 use coord_core::{
-    Coord, Ended, Event, Finished, Memory, Returned, Taken, Ticket, analyse, every_history,
-    least_is_least,
+    Coord, Ended, Event, Finished, Returned, Taken, Ticket, analyse, every_history, least_is_least,
 };
+use hipe_base::Memory;
 use lattice_laws::{Lattice, System};
 use std::alloc::Global;
 use std::process::Abort;

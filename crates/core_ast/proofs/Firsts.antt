@@ -30,7 +30,7 @@ rule_of-rank ArityLimit = refl
 rule_of-rank UnknownPrimop = refl
 rule_of-rank SizeLimit = refl
 
--- two rules with one place in the order are one
+-- two rules with one position in the order are one
 pub rank_same : (r s : Rule) → rank r ≡ rank s → r ≡ s
 rank_same r s e = sym (rule_of-rank r) ∙ ap rule_of e ∙ rule_of-rank s
 

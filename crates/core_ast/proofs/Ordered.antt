@@ -1,4 +1,4 @@
--- The first broken rule: there is one exactly where the module isn't good, and no other.
+-- The first broken rule: there is one if and only if the module isn't good, and no other.
 use Rattle.std.proofs.Common.{◌≡◌, ℕ, zero, suc, ◌<◌, ◌⊎◌, inl, inr, List, [], Option, Some, None, MatchOption, Contains, length, arith, refl, ap, sym, subst}
 use Rattle.hipe_terms.specs.declared.place.Place.{Place}
 use Rattle.core_ast.specs.declared.rule.Rule.{Rule}

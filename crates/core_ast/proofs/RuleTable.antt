@@ -8,7 +8,7 @@ use Rattle.core_ast.specs.declared.tree.FunName.{FunName}
 use Rattle.core_ast.specs.declared.rule.Rule.{Rule}
 use Rattle.core_ast.specs.declared.rule.Rule.TheVariants.{DuplicateFunction, ExportUndefined, UnboundFunction, UnboundVariable, DuplicateVariable, Degree, ArityLimit, UnknownPrimop, SizeLimit}
 use Rattle.core_ast.specs.Trees.{Pattern, Patterns, no_pattern, and_pattern, Expression, Expressions, no_expression, and_expression, Clauses, no_clause, and_clause, Definitions, no_definition, and_definition, Module}
-use Rattle.core_ast.specs.declared.limits.TheConstants.{FUNCTION_LIMIT}
+use Rattle.hipe_base.specs.declared.limits.TheConstants.{FUNCTION_LIMIT}
 use Rattle.core_ast.specs.Places.{funs}
 use Rattle.core_ast.specs.Part.{Part}
 use Rattle.core_ast.specs.Rules.{beyond_nodes, first_beyond, size_limit}

@@ -1,7 +1,9 @@
 -- Degrees: how many values an expression has, and how many it needs where it stands.
-use Rattle.std.specs.Prelude.{ℕ, suc, ◌==◌, Bool, true, ◌&&◌, ◌||◌, if◌then◌else◌, List, [], ◌∷◌, ◌++◌, length, Option, Some, None, bytes_eq, codes}
+use Rattle.std.specs.Prelude.{ℕ, suc, ◌==◌, Bool, true, false, ◌&&◌, ◌||◌, if◌then◌else◌, List, [], ◌∷◌, ◌++◌, length, Option, Some, None, bytes_eq, codes}
 use Rattle.std.specs.List.{flat_map}
 use Rattle.hipe_terms.specs.declared.place.Place.{Place}
+use Rattle.hipe_terms.specs.declared.primop.Primop.{Primop}
+use Rattle.hipe_terms.specs.Primops.{only_raises, primop_named}
 use Rattle.core_ast.specs.Trees.{Patterns, no_pattern, and_pattern, Expression, Expressions, no_expression, and_expression, Clauses, no_clause, and_clause}
 use Rattle.core_ast.specs.Places.{place_of}
 
@@ -17,9 +19,13 @@ count_patterns (and_pattern p ps) = suc (count_patterns ps)
 abbrev pub is_raising_call : (of name : List ℕ) (arguments : ℕ) → Bool
 is_raising_call m f n = bytes_eq m (codes "erlang") && (bytes_eq f (codes "error") || bytes_eq f (codes "throw") || bytes_eq f (codes "exit")) && n == 1
 
+abbrev pub raises_only : Option Primop → Bool
+raises_only None = false
+raises_only (Some p) = only_raises p
+
 -- the primitive operations that only raise, by their names alone
 abbrev pub is_raising_primop : List ℕ → Bool
-is_raising_primop f = bytes_eq f (codes "raise") || bytes_eq f (codes "match_fail")
+is_raising_primop f = raises_only (primop_named f)
 
 -- the first of two degrees that isn't every degree
 abbrev pub first_degree : Option ℕ → Option ℕ → Option ℕ

@@ -9,7 +9,7 @@ use Rattle.core_ast.specs.Part.{Part}
 use Rattle.core_ast.specs.Parts.{parts}
 use Rattle.core_ast.specs.Good.{IsBroken, IsGood, IsFirstBroken}
 
--- a rule is broken somewhere exactly where the module isn't good
+-- a rule is broken somewhere if and only if the module isn't good
 abbrev pub BrokenWhereNotGood : Type 0
 BrokenWhereNotGood = (m : Module) → ((r : Rule) × (p : Place) × IsBroken m r p) ↔ ¬ IsGood m
 

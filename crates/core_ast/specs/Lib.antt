@@ -9,6 +9,7 @@ pub mod Part
 pub mod Parts
 pub mod Degrees
 pub mod Rules
+pub mod RuleNames
 pub mod Good
 pub mod First
 pub mod GoodLaws

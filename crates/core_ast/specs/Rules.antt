@@ -1,8 +1,10 @@
 -- The nine rules of good modules. Each is a condition on a part and the names in scope there, and gives the places at which the part breaks it.
-use Rattle.std.specs.Prelude.{ℕ, ◌==◌, nat_lt, Bool, not, ◌&&◌, ◌||◌, if◌then◌else◌, List, [], ◌∷◌, ◌++◌, map, length, take, drop, bytes_eq, codes}
+use Rattle.std.specs.Prelude.{ℕ, ◌==◌, nat_lt, Bool, false, not, ◌||◌, if◌then◌else◌, Option, Some, None, List, [], ◌∷◌, ◌++◌, map, length, take, drop, bytes_eq}
 use Rattle.std.specs.List.{list_any}
 use Rattle.hipe_terms.specs.declared.place.Place.{Place}
-use Rattle.core_ast.specs.declared.limits.TheConstants.{ARITY_LIMIT, NODE_LIMIT, FUNCTION_LIMIT}
+use Rattle.hipe_terms.specs.declared.primop.Primop.{Primop}
+use Rattle.hipe_terms.specs.Primops.{primop_arity, primop_named}
+use Rattle.hipe_base.specs.declared.limits.TheConstants.{ARITY_LIMIT, NODE_LIMIT, FUNCTION_LIMIT}
 use Rattle.core_ast.specs.declared.pattern.Var.{Var}
 use Rattle.core_ast.specs.declared.rule.Rule.{Rule}
 use Rattle.core_ast.specs.declared.rule.Rule.TheVariants as Rules
@@ -76,7 +78,7 @@ degree _ = []
 abbrev pub beyond_arity : ℕ → Place → List Place
 beyond_arity n p = unless (not (nat_lt ARITY_LIMIT n)) p
 
--- a name, a fun, an `apply`, a `call` or a `primop` with more than 255 parameters or arguments
+-- a name, a fun, an `apply`, a `call` or a `primop` with more than `ARITY_LIMIT` parameters or arguments
 abbrev pub arity_limit : Part → List Place
 arity_limit (Part.Export f p) = beyond_arity f.arity p
 arity_limit (Part.Definition d) = beyond_arity d.name.arity d.at ++ beyond_arity (length d.function.parameters) d.function.at
@@ -87,16 +89,20 @@ arity_limit (Part.Expression (Expression.Call p m f args)) = beyond_arity (count
 arity_limit (Part.Expression (Expression.Primop p f args)) = beyond_arity (count args) p
 arity_limit _ = []
 
--- the primitive operations: `raise/2`, `match_fail/1` and `build_stacktrace/1`
-abbrev pub is_primop : List ℕ → ℕ → Bool
-is_primop f n = (bytes_eq f (codes "raise") && n == 2) || (bytes_eq f (codes "match_fail") && n == 1) || (bytes_eq f (codes "build_stacktrace") && n == 1)
+-- whether a primitive operation takes so many arguments: `raise/2`, `match_fail/1` and `build_stacktrace/1` do
+abbrev pub takes : Option Primop → ℕ → Bool
+takes None n = false
+takes (Some p) n = n == primop_arity p
+
+abbrev pub is_primop : (name : List ℕ) (arguments : ℕ) → Bool
+is_primop f n = takes (primop_named f) n
 
 -- another primitive operation
 abbrev pub unknown_primop : Part → List Place
 unknown_primop (Part.Expression (Expression.Primop p f args)) = unless (is_primop f (count args)) p
 unknown_primop _ = []
 
--- the names of those with more than 65,535 nodes
+-- the names of those with more than `NODE_LIMIT` nodes
 abbrev pub beyond_nodes : Definitions → List Place
 beyond_nodes no_definition = []
 beyond_nodes (and_definition p f q xs body ds) = unless (not (nat_lt NODE_LIMIT (expression_nodes body))) p ++ beyond_nodes ds
@@ -105,7 +111,7 @@ beyond_nodes (and_definition p f q xs body ds) = unless (not (nat_lt NODE_LIMIT 
 abbrev pub first_beyond : ℕ → List Place → List Place
 first_beyond limit places = take 1 (drop limit places)
 
--- a function of the module with more than 65,535 nodes, at its name; and more than 65,535 functions, those of each `letrec` and the funs among
+-- a function of the module with more than `NODE_LIMIT` nodes, at its name; and more than `FUNCTION_LIMIT` functions, those of each `letrec` and the funs among
 -- them, at the `fun` of the first beyond
 abbrev pub size_limit : Part → List Place
 size_limit (Part.Module m) = beyond_nodes m.definitions ++ first_beyond FUNCTION_LIMIT (funs_of_definitions m.definitions)

@@ -1,6 +1,6 @@
-// The nodes of a function.
+// The nodes of a function, counted down from a room, so that no count can grow past its type.
 
-ghost use Rattle.std.specs.Prelude.{◌≡◌, ◌<◌, ◌^◌, map, [], ◌∷◌};
+ghost use Rattle.std.specs.Prelude.{◌≡◌, ◌-◌, ◌<◌, ◌^◌, map, [], ◌∷◌};
 ghost use Rattle.core_ast.specs.Trees.{pattern_of, patterns, expression_of, expressions, clause_of, clauses, function_of, definition_of, definitions};
 ghost use Rattle.core_ast.specs.Nodes.{nodes_of, pattern_nodes, patterns_nodes, expression_nodes, expressions_nodes, clauses_nodes, definitions_nodes};
 
@@ -10,133 +10,144 @@ use crate::tree::{Clause, Expr, Fun, FunDef, Node};
 /// How many nodes a function has: the expressions, patterns, clauses and the variables bound by `let` and `try` in its
 /// body, those of the funs in it too. The module and the name of a `call` or `primop` are not counted. It takes no
 /// memory.
-#[cycle(nodes)]
-#[tactic(auto, using(crate::proofs::Levels::levels))]
 pub fn nodes(f: &Fun) -> u32
     requires { nodes_of (function_of f.now) < 2 ^ 32 }
     ensures { result ≡ nodes_of (function_of f.now) }
 {
-    expression(f.body.get())
+    (u64::MAX - function(f, u64::MAX)) as u32
 }
 
-// The nodes of an expression, itself among them.
-#[cycle(nodes)]
+/// What is left of a room once an expression has taken a unit for each of its nodes, itself among them: 0 where it has no
+/// fewer nodes than there is room.
+#[cycle(count)]
 #[tactic(auto, using(crate::proofs::Levels::levels))]
-fn expression(e: &Expr) -> u32
-    requires { expression_nodes (expression_of e.now) < 2 ^ 32 }
-    ensures { result ≡ expression_nodes (expression_of e.now) }
+pub fn expression(e: &Expr, room: u64) -> u64
+    ensures { result ≡ room - expression_nodes (expression_of e.now) }
 {
+    let left = room.saturating_sub(1);
     match &e.node {
-        Node::Int(_) | Node::Atom(_) | Node::Nil | Node::Var(_) | Node::Name(_) => 1,
-        Node::Tuple(parts) => 1 + expressions(parts.as_slice()),
-        Node::List(parts, tail) => 1 + expressions(parts.as_slice()) + expression(tail.get()),
-        Node::Values(parts) => 1 + expressions(parts.as_slice()),
+        Node::Int(_) | Node::Atom(_) | Node::Nil | Node::Var(_) | Node::Name(_) => left,
+        Node::Tuple(parts) => expressions(parts.as_slice(), left),
+        Node::List(parts, tail) => expression(tail.get(), expressions(parts.as_slice(), left)),
+        Node::Values(parts) => expressions(parts.as_slice(), left),
         Node::Let(variables, values, body) => {
-            1 + variables.len() as u32 + expression(values.get()) + expression(body.get())
+            let inside = expression(values.get(), without(variables.len(), left));
+            expression(body.get(), inside)
         }
-        Node::Case(values, list) => 1 + expression(values.get()) + clauses(list.as_slice()),
-        Node::Lambda(fun) => 1 + nodes(fun),
-        Node::Letrec(defs, body) => 1 + definitions(defs.as_slice()) + expression(body.get()),
-        Node::Apply(fun, args) => 1 + expression(fun.get()) + expressions(args.as_slice()),
-        Node::Call(_, _, args) => 1 + expressions(args.as_slice()),
-        Node::Primop(_, args) => 1 + expressions(args.as_slice()),
+        Node::Case(values, list) => clauses(list.as_slice(), expression(values.get(), left)),
+        Node::Lambda(fun) => function(fun, left),
+        Node::Letrec(defs, body) => expression(body.get(), definitions(defs.as_slice(), left)),
+        Node::Apply(fun, args) => expressions(args.as_slice(), expression(fun.get(), left)),
+        Node::Call(_, _, args) => expressions(args.as_slice(), left),
+        Node::Primop(_, args) => expressions(args.as_slice(), left),
         Node::Try(part, values, body, causes, handler) => {
-            let of = values.len() as u32 + expression(body.get());
-            let catch = causes.len() as u32 + expression(handler.get());
-            1 + expression(part.get()) + of + catch
+            let behind_part = expression(part.get(), left);
+            let behind_body = expression(body.get(), without(values.len(), behind_part));
+            expression(handler.get(), without(causes.len(), behind_body))
         }
-        Node::Do(first, second) => 1 + expression(first.get()) + expression(second.get()),
-        Node::Catch(part) => 1 + expression(part.get()),
+        Node::Do(first, second) => expression(second.get(), expression(first.get(), left)),
+        Node::Catch(part) => expression(part.get(), left),
     }
 }
 
-// The nodes of these expressions together.
-#[cycle(nodes)]
-#[tactic(auto, using(crate::proofs::Levels::levels))]
-fn expressions(list: &[Expr]) -> u32
-    requires { expressions_nodes (expressions (map expression_of list.now)) < 2 ^ 32 }
-    ensures { result ≡ expressions_nodes (expressions (map expression_of list.now)) }
+// The room without this many units.
+fn without(count: usize, room: u64) -> u64
+    ensures { result ≡ room - count }
 {
-    let mut count = 0;
+    room.saturating_sub(count as u64)
+}
+
+/// What these expressions together leave of a room.
+#[cycle(count)]
+#[tactic(auto, using(crate::proofs::Levels::levels))]
+pub fn expressions(list: &[Expr], room: u64) -> u64
+    ensures { result ≡ room - expressions_nodes (expressions (map expression_of list.now)) }
+{
+    let mut left = room;
     for e in list {
-        count += expression(e);
+        left = expression(e, left);
     }
-    count
+    left
 }
 
-// The nodes of a clause, itself among them.
-#[cycle(nodes)]
+/// What a clause leaves of a room, itself counted.
+#[cycle(count)]
 #[tactic(auto, using(crate::proofs::Levels::levels))]
-fn clause(c: &Clause) -> u32
-    requires { clauses_nodes (clauses (clause_of c.now ∷ [])) < 2 ^ 32 }
-    ensures { result ≡ clauses_nodes (clauses (clause_of c.now ∷ [])) }
+pub fn clause(c: &Clause, room: u64) -> u64
+    ensures { result ≡ room - clauses_nodes (clauses (clause_of c.now ∷ [])) }
 {
-    1 + patterns(c.patterns.as_slice()) + expression(&c.guard) + expression(&c.body)
+    let inside = patterns(c.patterns.as_slice(), room.saturating_sub(1));
+    expression(&c.body, expression(&c.guard, inside))
 }
 
-// The nodes of these clauses together.
-#[cycle(nodes)]
+/// What these clauses together leave of a room.
+#[cycle(count)]
 #[tactic(auto, using(crate::proofs::Levels::levels))]
-fn clauses(list: &[Clause]) -> u32
-    requires { clauses_nodes (clauses (map clause_of list.now)) < 2 ^ 32 }
-    ensures { result ≡ clauses_nodes (clauses (map clause_of list.now)) }
+pub fn clauses(list: &[Clause], room: u64) -> u64
+    ensures { result ≡ room - clauses_nodes (clauses (map clause_of list.now)) }
 {
-    let mut count = 0;
+    let mut left = room;
     for c in list {
-        count += clause(c);
+        left = clause(c, left);
     }
-    count
+    left
 }
 
-// The nodes of a function with a name.
-#[cycle(nodes)]
+/// What a function leaves of a room: it takes a unit for each node of its body.
+#[cycle(count)]
 #[tactic(auto, using(crate::proofs::Levels::levels))]
-fn definition(def: &FunDef) -> u32
-    requires { nodes_of (definition_of def.now).function < 2 ^ 32 }
-    ensures { result ≡ nodes_of (definition_of def.now).function }
+pub fn function(f: &Fun, room: u64) -> u64
+    ensures { result ≡ room - nodes_of (function_of f.now) }
 {
-    nodes(&def.fun)
+    expression(f.body.get(), room)
 }
 
-// The nodes of these functions together.
-#[cycle(nodes)]
+/// What a function with a name leaves of a room.
+#[cycle(count)]
 #[tactic(auto, using(crate::proofs::Levels::levels))]
-fn definitions(list: &[FunDef]) -> u32
-    requires { definitions_nodes (definitions (map definition_of list.now)) < 2 ^ 32 }
-    ensures { result ≡ definitions_nodes (definitions (map definition_of list.now)) }
+pub fn definition(def: &FunDef, room: u64) -> u64
+    ensures { result ≡ room - nodes_of (definition_of def.now).function }
 {
-    let mut count = 0;
+    function(&def.fun, room)
+}
+
+/// What these functions together leave of a room.
+#[cycle(count)]
+#[tactic(auto, using(crate::proofs::Levels::levels))]
+pub fn definitions(list: &[FunDef], room: u64) -> u64
+    ensures { result ≡ room - definitions_nodes (definitions (map definition_of list.now)) }
+{
+    let mut left = room;
     for def in list {
-        count += definition(def);
+        left = definition(def, left);
     }
-    count
+    left
 }
 
-// The nodes of a pattern, itself among them.
+/// What a pattern leaves of a room, itself counted.
 #[cycle(pattern)]
 #[tactic(auto, using(crate::proofs::Levels::pattern_levels))]
-fn pattern(p: &Pattern) -> u32
-    requires { pattern_nodes (pattern_of p.now) < 2 ^ 32 }
-    ensures { result ≡ pattern_nodes (pattern_of p.now) }
+pub fn pattern(p: &Pattern, room: u64) -> u64
+    ensures { result ≡ room - pattern_nodes (pattern_of p.now) }
 {
+    let left = room.saturating_sub(1);
     match &p.node {
-        PatNode::Var(_) | PatNode::Int(_) | PatNode::Atom(_) | PatNode::Nil => 1,
-        PatNode::Tuple(parts) => 1 + patterns(parts.as_slice()),
-        PatNode::List(parts, tail) => 1 + patterns(parts.as_slice()) + pattern(tail.get()),
-        PatNode::Alias(_, part) => 1 + pattern(part.get()),
+        PatNode::Var(_) | PatNode::Int(_) | PatNode::Atom(_) | PatNode::Nil => left,
+        PatNode::Tuple(parts) => patterns(parts.as_slice(), left),
+        PatNode::List(parts, tail) => pattern(tail.get(), patterns(parts.as_slice(), left)),
+        PatNode::Alias(_, part) => pattern(part.get(), left),
     }
 }
 
-// The nodes of these patterns together.
+/// What these patterns together leave of a room.
 #[cycle(pattern)]
 #[tactic(auto, using(crate::proofs::Levels::pattern_levels))]
-fn patterns(list: &[Pattern]) -> u32
-    requires { patterns_nodes (patterns (map pattern_of list.now)) < 2 ^ 32 }
-    ensures { result ≡ patterns_nodes (patterns (map pattern_of list.now)) }
+pub fn patterns(list: &[Pattern], room: u64) -> u64
+    ensures { result ≡ room - patterns_nodes (patterns (map pattern_of list.now)) }
 {
-    let mut count = 0;
+    let mut left = room;
     for p in list {
-        count += pattern(p);
+        left = pattern(p, left);
     }
-    count
+    left
 }

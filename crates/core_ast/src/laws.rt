@@ -2,7 +2,7 @@
 
 ghost use Rattle.core_ast.specs.GoodLaws.{BrokenWhereNotGood, SomeRuleIsFirst, OneRuleIsFirst, PartsHaveNoMoreNodes};
 
-/// A rule is broken somewhere exactly where the module isn't good.
+/// A rule is broken somewhere if and only if the module isn't good.
 pub fn broken_where_not_good()
     ensures { BrokenWhereNotGood }
 {}

@@ -1,11 +1,17 @@
 // The tree of a Core Erlang module, the nodes of its functions, and the rules of good modules.
 //
+// Promises: the counts of count.rt, `nodes` among them, are those of specs/Nodes.antt, and `is_well_formed` answers whether integers
+// are in the range and lists are whole. The rules are specs/Rules.antt, each a condition on a part and the names in scope there; a
+// `GoodModule` breaks none of them, which its type keeps. A rule is broken somewhere if and only if a module isn't good, and then there
+// is one first broken rule. All definitions are about plain trees (specs/Trees.antt).
+//
+// May touch: nothing.
+//
 // Files:
 //   variable.rt   names of variables
 //   pattern.rt    variables and patterns
 //   tree.rt       modules, functions, expressions and clauses
-//   count.rt      the nodes of a function
-//   limits.rt     the limits of modules, each by name with its reason
+//   count.rt      the nodes of a function and of its parts, up to a limit
 //   well_formed.rt  whether a tree is well formed
 //   rule.rt       the rules of good modules
 //   good.rt       good modules
@@ -15,7 +21,6 @@
 pub mod count;
 pub mod good;
 pub mod laws;
-pub mod limits;
 pub mod pattern;
 pub mod rule;
 pub mod tree;

@@ -1,5 +1,8 @@
 // The rules of good modules.
 
+ghost use Rattle.std.specs.Prelude.{◌≡◌};
+ghost use Rattle.core_ast.specs.RuleNames.{rule_name};
+
 use hipe_terms::Place;
 
 /// A rule that a module of the profile must keep, beside the grammar. Where several are broken at one place, the first of
@@ -28,6 +31,25 @@ pub enum Rule {
     /// A function of the module with more than `NODE_LIMIT` nodes, at its name; and the `fun` of the first function beyond
     /// `FUNCTION_LIMIT`.
     SizeLimit,
+}
+
+impl Rule {
+    /// The rule's name.
+    pub fn name(self) -> &'static str
+        ensures { result.now ≡ rule_name self }
+    {
+        match self {
+            Rule::DuplicateFunction => "duplicate_function",
+            Rule::ExportUndefined => "export_undefined",
+            Rule::UnboundFunction => "unbound_function",
+            Rule::UnboundVariable => "unbound_variable",
+            Rule::DuplicateVariable => "duplicate_variable",
+            Rule::Degree => "degree",
+            Rule::ArityLimit => "arity_limit",
+            Rule::UnknownPrimop => "unknown_primop",
+            Rule::SizeLimit => "size_limit",
+        }
+    }
 }
 
 /// A broken rule, and where it is broken.

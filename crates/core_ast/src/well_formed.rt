@@ -6,7 +6,7 @@ ghost use Rattle.core_ast.specs.WellFormed.{is_list_pattern, well_formed_pattern
 
 use crate::pattern::{PatNode, Pattern};
 use crate::tree::{Clause, Expr, Fun, FunDef, Module, Node};
-use hipe_terms::limits::{GREATEST_INTEGER, LEAST_INTEGER};
+use hipe_base::limits::{GREATEST_INTEGER, LEAST_INTEGER};
 use hipe_terms::{Atom, Constant, is_constant};
 
 /// Whether a module is well formed, as every call that takes one wants it: its integers are in the range of the limits, no

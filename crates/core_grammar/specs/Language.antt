@@ -1,5 +1,6 @@
 -- Which lists of terminals are modules and calls, and where the others are refused.
 use Rattle.std.specs.Prelude.{◌≡◌, ℕ, List, [], ◌∷◌, ◌++◌, length, Bool, true, false, ◌||◌, nat_le, Result, Ok, Err}
+use Rattle.hipe_base.specs.declared.limits.TheConstants.{ARITY_LIMIT}
 use Rattle.hipe_terms.specs.declared.place.Place.{Place}
 use Rattle.hipe_terms.specs.declared.constant.Call.{Call}
 use Rattle.core_ast.specs.declared.tree.Module.{Module}
@@ -18,15 +19,11 @@ Derives ok ts m = ModuleOf ok m ts []
 abbrev pub DerivesCall : Leave → List Terminal → Call → Type 0
 DerivesCall ok ts c = CallOf ok c ts []
 
--- the most arguments of a call
-abbrev pub argument_limit : ℕ
-argument_limit = 255
-
 -- no part has a level above n
 abbrev pub limit : ℕ → Leave
 limit n (part k) ts = nat_le k n
 limit n variable_operand ts = false
-limit n (argument i) ts = nat_le i argument_limit
+limit n (argument i) ts = nat_le i ARITY_LIMIT
 
 -- whatever the levels
 abbrev pub any : Leave
@@ -42,7 +39,7 @@ any_operand need ts = true
 abbrev pub within : ℕ → ℕ → Leave
 within n m (part k) ts = nat_le k n || nat_le (length ts) m
 within n m variable_operand ts = false
-within n m (argument i) ts = nat_le i argument_limit || nat_le (length ts) m
+within n m (argument i) ts = nat_le i ARITY_LIMIT || nat_le (length ts) m
 
 -- some module goes on with these terminals
 abbrev pub Viable : Leave → List Terminal → Type 0

@@ -4,5 +4,6 @@ pub mod Grammar
 pub mod Language
 pub mod Laws
 pub mod Leave
+pub mod Marks
 pub mod Ranges
 pub mod Trees

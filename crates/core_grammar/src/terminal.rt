@@ -4,7 +4,7 @@ use core_ast::VariableName;
 use hipe_terms::{Atom, Place};
 use sqlite_items::Items;
 
-/// A word or a sign of the language: a token with one spelling.
+/// A keyword or a sign of the language: a token with one spelling.
 #[derive(Clone, Copy, Debug, PartialEq, Eq)]
 pub enum Mark {
     /// `after`
@@ -92,11 +92,11 @@ pub enum Kind {
     Natural(u64),
     /// An integer with a sign, or a character.
     Integer(i64),
-    /// A float, whose value nobody asks for.
+    /// A float, whose value nobody asks for, or a keyword or sign that the profile hasn't.
     Float,
     /// A text, as its code points.
     Text(Items<u32>),
-    /// A word or a sign.
+    /// A keyword or a sign.
     Mark(Mark),
 }
 

@@ -48,7 +48,7 @@ any_append k (x ∷ xs) y = rw (any_append k xs y) (or_assoc (same_key k x) (lis
   or_assoc true b c = refl
   or_assoc false b c = refl
 
--- a name is among the keys exactly where it is counted
+-- a name is among the keys if and only if it is counted
 pub contains_is : (k : Key) (names : List Name) → nat_lt 0 (occurrences k names) ≡ list_any (λ z. same_key k z) (keys names)
 contains_is k [] = refl
 contains_is k (n ∷ ns) = rw (any_append k (keys ns) (key_of n), ← contains_is k ns) (go (same_key k (key_of n)) (occurrences k ns)) where
@@ -79,7 +79,7 @@ number_ties x y = go (nat_lt x y) (nat_eq x y) refl refl where
   go true false e f = refl
   go true true e f = absurd (grind (arith, nat_tests, e, f))
 
--- two names are at the same place of the order exactly where their keys are the same
+-- two names are at the same position of the order if and only if their keys are the same
 pub name_ties : (a b : Name) → is_eq (name_order a b) ≡ same_key (key_of a) (key_of b)
 name_ties a b = sym (both_tied (bytes_eq a.text.now b.text.now) (nat_eq a.arity b.arity) (slice_cmp nat_cmp a.text.now b.text.now) (nat_cmp a.arity b.arity) (sym (is_eq-slice_cmp a.text.now b.text.now)) (number_ties a.arity b.arity))
 

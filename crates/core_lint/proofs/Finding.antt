@@ -16,7 +16,7 @@ use Rattle.core_ast.specs.Rules.{unless, repeated, repeated_variables, repeated_
 use Rattle.core_ast.specs.First.{broken_at, noted_all}
 use Rattle.core_ast.proofs.Firsts.{occurs, occurs-append, noted_all-append}
 use Rattle.core_ast.proofs.Spots.{hits, hits-append}
-use Rattle.core_ast.proofs.Words.{bytes_eq-encode}
+use Rattle.hipe_terms.proofs.AtomTexts.{bytes_eq-encode}
 use Rattle.core_lint.specs.declared.walk.Walk.{Walk}
 use Rattle.core_lint.specs.Keys.{same_key}
 use Rattle.core_lint.specs.Noted.{noted_unless}

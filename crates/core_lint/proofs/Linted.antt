@@ -1,7 +1,7 @@
 -- What the two walks answer is the first broken rule.
 use Rattle.std.proofs.Common.{◌≡◌, ◌+◌, [], ◌++◌, Option, None, MatchOption, arith, ap, sym, ◌∙◌}
 use Rattle.core_ast.specs.declared.rule.Broken.{Broken}
-use Rattle.core_ast.specs.declared.limits.TheConstants.{FUNCTION_LIMIT}
+use Rattle.hipe_base.specs.declared.limits.TheConstants.{FUNCTION_LIMIT}
 use Rattle.core_ast.specs.Trees.{Module}
 use Rattle.core_ast.specs.Good.{IsGood, IsFirstBroken}
 use Rattle.core_ast.specs.First.{noted_all}

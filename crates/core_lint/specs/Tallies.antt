@@ -1,12 +1,12 @@
 -- The walk that counts: values, parameters and arguments, functions, and nodes.
 use Rattle.std.specs.Prelude.{ℕ, ◌-◌, ◌==◌, nat_lt, Bool, not, ◌||◌, List, [], ◌∷◌, length, Option, Some, None}
 use Rattle.hipe_terms.specs.declared.place.Place.{Place}
-use Rattle.core_ast.specs.declared.limits.TheConstants.{ARITY_LIMIT, NODE_LIMIT}
+use Rattle.hipe_base.specs.declared.limits.TheConstants.{ARITY_LIMIT, NODE_LIMIT}
 use Rattle.core_ast.specs.declared.pattern.Var.{Var}
 use Rattle.core_ast.specs.declared.tree.FunName.{FunName}
 use Rattle.core_ast.specs.declared.rule.Rule.{Rule}
 use Rattle.core_ast.specs.declared.rule.Rule.TheVariants.{Degree, ArityLimit, UnknownPrimop, SizeLimit}
-use Rattle.core_ast.specs.Trees.{Expression, Expressions, no_expression, and_expression, Clauses, no_clause, and_clause, Definitions, no_definition, and_definition, Module}
+use Rattle.core_ast.specs.Trees.{Expression, Expressions, no_expression, and_expression, Clauses, no_clause, and_clause, Definitions, no_definition, and_definition, Function, Module}
 use Rattle.core_ast.specs.Nodes.{expression_nodes}
 use Rattle.core_ast.specs.Places.{place_of}
 use Rattle.core_ast.specs.Degrees.{count, count_patterns, first_degree, degree_of, fits}
@@ -83,6 +83,10 @@ abbrev mutual
       tallied_definitions ds
       (needed (degree_of body) 1 (place_of body)
       (tallied body (limited (length xs) q (begun q (tested (length xs == f.arity) Degree q (limited f.arity p t))))))
+
+-- a function: its parameters, and its body, which needs one value
+abbrev pub tallied_function : Function → Tally → Tally
+tallied_function f t = needed (degree_of f.body) 1 (place_of f.body) (tallied f.body (limited (length f.parameters) f.at (begun f.at t)))
 
 abbrev pub tallied_exports : List (FunName × Place) → Tally → Tally
 tallied_exports [] t = t

@@ -5,7 +5,7 @@ use Rattle.hipe_terms.specs.declared.place.Place.{Place}
 use Rattle.core_ast.specs.declared.tree.FunName.{FunName}
 use Rattle.core_ast.specs.declared.rule.Rule.{Rule}
 use Rattle.core_ast.specs.declared.rule.Rule.TheVariants.{DuplicateFunction, ExportUndefined, UnboundFunction, UnboundVariable, DuplicateVariable}
-use Rattle.core_ast.specs.Trees.{Expression, Expressions, no_expression, and_expression, Clauses, no_clause, and_clause, Definitions, no_definition, and_definition, Module}
+use Rattle.core_ast.specs.Trees.{Expression, Expressions, no_expression, and_expression, Clauses, no_clause, and_clause, Definitions, no_definition, and_definition, Function, Module}
 use Rattle.core_ast.specs.Names.{variables_of_all}
 use Rattle.core_lint.specs.declared.walk.Walk.{Walk}
 use Rattle.core_lint.specs.Keys.{same_key}
@@ -91,6 +91,10 @@ abbrev mutual
   visited_definitions no_definition w = w
   visited_definitions (and_definition p f q xs body ds) w =
       visited_definitions ds (within (variable_entries xs) (visited body) (bound DuplicateVariable (variable_entries xs) w))
+
+-- a function: its parameters are bound together, and in scope in its body
+abbrev pub visited_function : Function → Walk → Walk
+visited_function f w = within (variable_entries f.parameters) (visited f.body) (bound DuplicateVariable (variable_entries f.parameters) w)
 
 abbrev pub visited_exports : List (FunName × Place) → Walk → Walk
 visited_exports [] w = w

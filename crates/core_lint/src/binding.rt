@@ -8,7 +8,8 @@ ghost use Rattle.core_lint.specs.Entries.{entry_of, variable_key, function_key, 
 
 use crate::name::{Bound, Name};
 use core_ast::{FunDef, FunName, PatNode, Pattern, Place, Var, VariableName};
-use std::alloc::{AllocError, Global};
+use hipe_base::Memory;
+use std::alloc::Global;
 
 /// The name of a variable.
 pub fn variable<'a>(x: &'a VariableName) -> Name<'a>
@@ -30,7 +31,7 @@ pub fn function<'a>(f: &'a FunName) -> Name<'a>
     }
 }
 
-fn bind<'a>(name: Name<'a>, at: Place, list: &mut Vec<Bound<'a>>) -> Result<(), AllocError>
+fn bind<'a>(name: Name<'a>, at: Place, list: &mut Vec<Bound<'a>>) -> Result<(), Memory>
     ensures { OnOk result (map entry_of list.new.items ≡ map entry_of list.old.items ++ (key_of name.entry, at) ∷ []) }
 {
     list.push(Bound { name, at })?;
@@ -38,7 +39,7 @@ fn bind<'a>(name: Name<'a>, at: Place, list: &mut Vec<Bound<'a>>) -> Result<(), 
 }
 
 /// The names of these variables.
-pub fn variables<'a>(alloc: Global, xs: &'a [Var]) -> Result<Vec<Bound<'a>>, AllocError>
+pub fn variables<'a>(alloc: Global, xs: &'a [Var]) -> Result<Vec<Bound<'a>>, Memory>
     ensures { IfOk result (λ list. map entry_of list.items ≡ variable_entries xs.now) }
 {
     let mut list = Vec::with_capacity(alloc, xs.len())?;
@@ -61,7 +62,7 @@ fn definition<'a>(def: &'a FunDef) -> Bound<'a>
 
 /// The names of these functions.
 #[tactic(auto, using(crate::proofs::Bound::bound_functions))]
-pub fn functions<'a>(alloc: Global, defs: &'a [FunDef]) -> Result<Vec<Bound<'a>>, AllocError>
+pub fn functions<'a>(alloc: Global, defs: &'a [FunDef]) -> Result<Vec<Bound<'a>>, Memory>
     ensures { IfOk result (λ list. map entry_of list.items ≡ function_entries (definitions (map definition_of defs.now))) }
 {
     let mut list = Vec::with_capacity(alloc, defs.len())?;
@@ -72,10 +73,7 @@ pub fn functions<'a>(alloc: Global, defs: &'a [FunDef]) -> Result<Vec<Bound<'a>>
 }
 
 /// The names of the variables of these patterns, in the order of the text.
-pub fn pattern_variables<'a>(
-    alloc: Global,
-    list: &'a [Pattern],
-) -> Result<Vec<Bound<'a>>, AllocError>
+pub fn pattern_variables<'a>(alloc: Global, list: &'a [Pattern]) -> Result<Vec<Bound<'a>>, Memory>
     ensures { IfOk result (λ bound. map entry_of bound.items ≡ variable_entries (variables_of_all (patterns (map pattern_of list.now)))) }
 {
     let mut bound = Vec::new(alloc);
@@ -85,7 +83,7 @@ pub fn pattern_variables<'a>(
 
 #[cycle(patterns)]
 #[tactic(auto, using(crate::proofs::Bound::bound_variables))]
-fn in_pattern<'a>(p: &'a Pattern, bound: &mut Vec<Bound<'a>>) -> Result<(), AllocError>
+fn in_pattern<'a>(p: &'a Pattern, bound: &mut Vec<Bound<'a>>) -> Result<(), Memory>
     ensures { OnOk result (map entry_of bound.new.items ≡ map entry_of bound.old.items ++ variable_entries (variables_of (pattern_of p.now))) }
 {
     match &p.node {
@@ -105,7 +103,7 @@ fn in_pattern<'a>(p: &'a Pattern, bound: &mut Vec<Bound<'a>>) -> Result<(), Allo
 
 #[cycle(patterns)]
 #[tactic(auto, using(crate::proofs::Bound::bound_variables))]
-fn in_patterns<'a>(list: &'a [Pattern], bound: &mut Vec<Bound<'a>>) -> Result<(), AllocError>
+fn in_patterns<'a>(list: &'a [Pattern], bound: &mut Vec<Bound<'a>>) -> Result<(), Memory>
     ensures { OnOk result (map entry_of bound.new.items ≡ map entry_of bound.old.items ++ variable_entries (variables_of_all (patterns (map pattern_of list.now)))) }
 {
     for p in list {

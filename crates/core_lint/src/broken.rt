@@ -1,28 +1,10 @@
 // The first broken rule so far.
 
 ghost use Rattle.std.specs.Prelude.{◌≡◌};
-ghost use Rattle.core_ast.specs.Rules.{rank as rank_of};
 ghost use Rattle.core_ast.specs.First.{is_sooner};
 ghost use Rattle.core_lint.specs.Noted.{noted_unless};
 
 use core_ast::{Broken, Place, Rule};
-
-// The place of a rule in the order in which the rules are answered.
-fn rank(rule: Rule) -> u8
-    ensures { result ≡ rank_of rule }
-{
-    match rule {
-        Rule::DuplicateFunction => 1,
-        Rule::ExportUndefined => 2,
-        Rule::UnboundFunction => 3,
-        Rule::UnboundVariable => 4,
-        Rule::DuplicateVariable => 5,
-        Rule::Degree => 6,
-        Rule::ArityLimit => 7,
-        Rule::UnknownPrimop => 8,
-        Rule::SizeLimit => 9,
-    }
-}
 
 // Whether a is answered before b.
 fn is_sooner(a: Broken, b: Broken) -> bool
@@ -34,7 +16,7 @@ fn is_sooner(a: Broken, b: Broken) -> bool
     if a.at.col != b.at.col {
         return a.at.col < b.at.col;
     }
-    rank(a.rule) < rank(b.rule)
+    a.rule < b.rule
 }
 
 /// Notes a rule that is broken unless the test holds, where it is answered before the first that is known.

@@ -4,7 +4,7 @@ ghost use Rattle.std.specs.Prelude.{◌≡◌, ◌∷◌, [], if◌then◌else�
 ghost use Rattle.core_ast.specs.Trees.{expression_of, expressions, clause_of, clauses, definition_of, definitions, function_of};
 ghost use Rattle.core_ast.specs.Places.{place_of};
 ghost use Rattle.core_ast.specs.Degrees.{degree_of, degree_of_bodies, first_degree};
-ghost use Rattle.core_lint.specs.Tallies.{tallied, tallied_each, tallied_clauses, tallied_definitions, tallied_exports, needed, limited, begun};
+ghost use Rattle.core_lint.specs.Tallies.{tallied, tallied_each, tallied_clauses, tallied_definitions, tallied_function, tallied_exports, needed};
 
 use crate::tally::{Tally, is_primop, is_raising_call, is_raising_primop};
 use core_ast::{Clause, Expr, Fun, FunDef, FunName, Node, Place, Rule};
@@ -173,7 +173,7 @@ fn clauses(list: &[Clause], argument: Option<u64>, at: Place, tally: &mut Tally)
 #[cycle(counting)]
 #[tactic(auto, using(crate::proofs::Counts::counts))]
 fn function(f: &Fun, tally: &mut Tally)
-    ensures { tally.new ≡ needed (degree_of (function_of f.now).body) 1 (place_of (function_of f.now).body) (tallied (function_of f.now).body (limited (length (function_of f.now).parameters) (function_of f.now).at (begun (function_of f.now).at tally.old))) }
+    ensures { tally.new ≡ tallied_function (function_of f.now) tally.old }
 {
     tally.begin(f.at);
     tally.limit(f.params.len() as u64, f.at);

@@ -1,12 +1,14 @@
 // The linter of Core Erlang's profile: it tells good modules from others.
 //
-// `lint` answers the module as a good one, or the first rule that it breaks with the place. Rules are broken at places; the
-// first place in the text is answered, and at one place the first rule. The rules and what is broken where are definitions of
-// `core_ast`.
+// Promises: `lint` answers the same module as a good one if and only if it breaks no rule, or else the first rule that it breaks with the
+// place, or that memory ran out. Rules are broken at places; the first place in the text is answered, and at one place the first rule.
+// The rules and what is broken where are definitions of `core_ast`.
 //
 // Three walks go through a module. One keeps the names in scope, in ordered maps; one counts values, parameters and
 // functions; one counts nodes. That each visits every part once, and goes down no deeper than the levels of the module, is
 // how the code is written, and no contract says it.
+//
+// May touch: memory alone, for the names in scope.
 //
 // Files:
 //   refusal.rt    why a module isn't good
@@ -18,7 +20,7 @@
 //   scoping.rt    the walk through the scopes
 //   tally.rt      what the walk that counts knows
 //   counting.rt   the walk that counts
-//   sizing.rt     the nodes of a function, up to a limit
+//   sizing.rt     the functions of a module with more nodes than the limit
 //   linter.rt     the linter
 #![tactic(auto)]
 

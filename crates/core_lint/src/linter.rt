@@ -15,12 +15,13 @@ use crate::scoping;
 use crate::sizing::module_functions;
 use crate::tally::Tally;
 use crate::walk::Walk;
-use core_ast::limits::FUNCTION_LIMIT;
 use core_ast::{Broken, GoodModule, Module};
-use std::alloc::{AllocError, Global};
+use hipe_base::Memory;
+use hipe_base::limits::FUNCTION_LIMIT;
+use std::alloc::Global;
 
 // The first broken rule that speaks of names.
-fn names(alloc: Global, m: &Module) -> Result<Option<Broken>, AllocError>
+fn names(alloc: Global, m: &Module) -> Result<Option<Broken>, Memory>
     ensures { IfOk result (λ first. first ≡ (visited_module (module_of m.now) (record { variables = []; functions = []; first = None })).first) }
 {
     let mut walk = Walk {
@@ -47,7 +48,7 @@ fn counts(m: &Module, first: Option<Broken>) -> Option<Broken>
 }
 
 // The first broken rule.
-fn first_broken(alloc: Global, m: &Module) -> Result<Option<Broken>, AllocError>
+fn first_broken(alloc: Global, m: &Module) -> Result<Option<Broken>, Memory>
     ensures { IfOk result (λ first. MatchOption first (IsGood (module_of m.now)) (λ b. IsFirstBroken (module_of m.now) b.rule b.at)) }
 {
     let first = names(alloc, m)?;
@@ -55,7 +56,7 @@ fn first_broken(alloc: Global, m: &Module) -> Result<Option<Broken>, AllocError>
 }
 
 /// The module as a good one, or why it isn't: the first rule that it breaks, by the place and at one place by the order of
-/// the rules, or want of memory.
+/// the rules, or that memory ran out.
 pub fn lint(alloc: Global, m: Module) -> Result<GoodModule, LintRefusal>
     requires { IsWellFormed (module_of m) }
     ensures same { IfOk result (λ good. good.tree ≡ m) }

@@ -6,7 +6,8 @@ ghost use Rattle.core_lint.specs.Keys.{same_key, key_of};
 ghost use Rattle.core_lint.specs.Entries.{entry_of, entered};
 
 use crate::name::{Bound, Name};
-use std::alloc::{AllocError, Global};
+use hipe_base::Memory;
+use std::alloc::Global;
 use std::collections::BTreeMap;
 use std::marker::Model;
 
@@ -48,7 +49,7 @@ impl<'a> Scope<'a> {
     }
 
     /// Takes a name into scope, as the innermost.
-    pub fn enter(&mut self, name: Name<'a>) -> Result<(), AllocError>
+    pub fn enter(&mut self, name: Name<'a>) -> Result<(), Memory>
         ensures entered { OnOk result (self.new ≡ key_of name.entry ∷ self.old) }
         ensures err { OnErr result (self.new ≡ self.old) }
     {
@@ -56,7 +57,7 @@ impl<'a> Scope<'a> {
         self.names.push(name)?;
         if self.counts.insert(name, count + 1).is_err() {
             self.names.pop();
-            return Err(AllocError);
+            return Err(Memory);
         }
         Ok(())
     }
@@ -74,7 +75,7 @@ impl<'a> Scope<'a> {
 
     /// Takes these names into scope, the first as the innermost.
     #[tactic(auto, using(crate::proofs::Entered::entering))]
-    pub fn enter_all(&mut self, list: &[Bound<'a>]) -> Result<(), AllocError>
+    pub fn enter_all(&mut self, list: &[Bound<'a>]) -> Result<(), Memory>
         ensures { OnOk result (self.new ≡ entered (map entry_of list.now) self.old) }
     {
         let mut left = list.len();

@@ -3,18 +3,19 @@
 ghost use Rattle.std.specs.Prelude.{◌≡◌, ◌∷◌, [], OnOk, map};
 ghost use Rattle.core_ast.specs.Trees.{expression_of, expressions, clause_of, clauses, definition_of, definitions, function_of, module_of};
 ghost use Rattle.core_lint.specs.Entries.{entry_of, variable_entries};
-ghost use Rattle.core_lint.specs.Walks.{visited, visited_all, visited_clauses, visited_definitions, visited_exports, visited_module, within, entered_functions, bound};
+ghost use Rattle.core_lint.specs.Walks.{visited, visited_all, visited_clauses, visited_definitions, visited_function, visited_exports, visited_module, within, entered_functions, bound};
 
 use crate::binding::{functions, pattern_variables, variables};
 use crate::name::Bound;
 use crate::walk::Walk;
 use core_ast::{Clause, Expr, Fun, FunDef, FunName, Module, Node, Place, Rule, Var};
-use std::alloc::{AllocError, Global};
+use hipe_base::Memory;
+use std::alloc::Global;
 
 // An expression.
 #[cycle(scoping)]
 #[tactic(auto, using(core_ast::proofs::Levels::levels))]
-fn expression<'a>(alloc: Global, e: &'a Expr, walk: &mut Walk<'a>) -> Result<(), AllocError>
+fn expression<'a>(alloc: Global, e: &'a Expr, walk: &mut Walk<'a>) -> Result<(), Memory>
     ensures { OnOk result (walk.new ≡ visited (expression_of e.now) walk.old) }
 {
     match &e.node {
@@ -73,7 +74,7 @@ fn expression<'a>(alloc: Global, e: &'a Expr, walk: &mut Walk<'a>) -> Result<(),
 // These expressions.
 #[cycle(scoping)]
 #[tactic(auto, using(core_ast::proofs::Levels::levels))]
-fn expressions<'a>(alloc: Global, list: &'a [Expr], walk: &mut Walk<'a>) -> Result<(), AllocError>
+fn expressions<'a>(alloc: Global, list: &'a [Expr], walk: &mut Walk<'a>) -> Result<(), Memory>
     ensures { OnOk result (walk.new ≡ visited_all (expressions (map expression_of list.now)) walk.old) }
 {
     for e in list {
@@ -83,7 +84,7 @@ fn expressions<'a>(alloc: Global, list: &'a [Expr], walk: &mut Walk<'a>) -> Resu
 }
 
 // These variables are bound together.
-fn bind<'a>(alloc: Global, xs: &'a [Var], walk: &mut Walk<'a>) -> Result<(), AllocError>
+fn bind<'a>(alloc: Global, xs: &'a [Var], walk: &mut Walk<'a>) -> Result<(), Memory>
     ensures { OnOk result (walk.new ≡ bound Rule.DuplicateVariable (variable_entries xs.now) walk.old) }
 {
     let list = variables(alloc, xs)?;
@@ -98,7 +99,7 @@ fn within<'a>(
     xs: &'a [Var],
     body: &'a Expr,
     walk: &mut Walk<'a>,
-) -> Result<(), AllocError>
+) -> Result<(), Memory>
     ensures { OnOk result (walk.new ≡ within (variable_entries xs.now) (visited (expression_of body.now)) walk.old) }
 {
     let list = variables(alloc, xs)?;
@@ -111,15 +112,15 @@ fn within<'a>(
 // A function.
 #[cycle(scoping)]
 #[tactic(auto, using(core_ast::proofs::Levels::levels))]
-fn function<'a>(alloc: Global, f: &'a Fun, walk: &mut Walk<'a>) -> Result<(), AllocError>
-    ensures { OnOk result (walk.new ≡ within (variable_entries (function_of f.now).parameters) (visited (function_of f.now).body) (bound Rule.DuplicateVariable (variable_entries (function_of f.now).parameters) walk.old)) }
+fn function<'a>(alloc: Global, f: &'a Fun, walk: &mut Walk<'a>) -> Result<(), Memory>
+    ensures { OnOk result (walk.new ≡ visited_function (function_of f.now) walk.old) }
 {
     bind(alloc, f.params.as_slice(), walk)?;
     within(alloc, f.params.as_slice(), f.body.get(), walk)
 }
 
 // The functions of a `letrec` are in scope from here on.
-fn group<'a>(alloc: Global, list: &[Bound<'a>], walk: &mut Walk<'a>) -> Result<(), AllocError>
+fn group<'a>(alloc: Global, list: &[Bound<'a>], walk: &mut Walk<'a>) -> Result<(), Memory>
     ensures { OnOk result (walk.new ≡ entered_functions (map entry_of list.now) (bound Rule.DuplicateFunction (map entry_of list.now) walk.old)) }
 {
     walk.bind(alloc, Rule::DuplicateFunction, list)?;
@@ -129,7 +130,7 @@ fn group<'a>(alloc: Global, list: &[Bound<'a>], walk: &mut Walk<'a>) -> Result<(
 // A clause.
 #[cycle(scoping)]
 #[tactic(auto, using(core_ast::proofs::Levels::levels))]
-fn clause<'a>(alloc: Global, c: &'a Clause, walk: &mut Walk<'a>) -> Result<(), AllocError>
+fn clause<'a>(alloc: Global, c: &'a Clause, walk: &mut Walk<'a>) -> Result<(), Memory>
     ensures { OnOk result (walk.new ≡ visited_clauses (clauses (clause_of c.now ∷ [])) walk.old) }
 {
     let list = pattern_variables(alloc, c.patterns.as_slice())?;
@@ -144,7 +145,7 @@ fn clause<'a>(alloc: Global, c: &'a Clause, walk: &mut Walk<'a>) -> Result<(), A
 // These clauses.
 #[cycle(scoping)]
 #[tactic(auto, using(core_ast::proofs::Levels::levels))]
-fn clauses<'a>(alloc: Global, list: &'a [Clause], walk: &mut Walk<'a>) -> Result<(), AllocError>
+fn clauses<'a>(alloc: Global, list: &'a [Clause], walk: &mut Walk<'a>) -> Result<(), Memory>
     ensures { OnOk result (walk.new ≡ visited_clauses (clauses (map clause_of list.now)) walk.old) }
 {
     for c in list {
@@ -156,7 +157,7 @@ fn clauses<'a>(alloc: Global, list: &'a [Clause], walk: &mut Walk<'a>) -> Result
 // A function with its name, which is in scope already.
 #[cycle(scoping)]
 #[tactic(auto, using(core_ast::proofs::Levels::levels))]
-fn definition<'a>(alloc: Global, def: &'a FunDef, walk: &mut Walk<'a>) -> Result<(), AllocError>
+fn definition<'a>(alloc: Global, def: &'a FunDef, walk: &mut Walk<'a>) -> Result<(), Memory>
     ensures { OnOk result (walk.new ≡ visited_definitions (definitions (definition_of def.now ∷ [])) walk.old) }
 {
     function(alloc, &def.fun, walk)
@@ -165,7 +166,7 @@ fn definition<'a>(alloc: Global, def: &'a FunDef, walk: &mut Walk<'a>) -> Result
 // These functions, whose names are in scope already.
 #[cycle(scoping)]
 #[tactic(auto, using(core_ast::proofs::Levels::levels))]
-fn definitions<'a>(alloc: Global, list: &'a [FunDef], walk: &mut Walk<'a>) -> Result<(), AllocError>
+fn definitions<'a>(alloc: Global, list: &'a [FunDef], walk: &mut Walk<'a>) -> Result<(), Memory>
     ensures { OnOk result (walk.new ≡ visited_definitions (definitions (map definition_of list.now)) walk.old) }
 {
     for def in list {
@@ -184,7 +185,7 @@ fn exports<'a>(list: &'a [(FunName, Place)], walk: &mut Walk<'a>)
 }
 
 /// The names of a module.
-pub fn module<'a>(alloc: Global, m: &'a Module, walk: &mut Walk<'a>) -> Result<(), AllocError>
+pub fn module<'a>(alloc: Global, m: &'a Module, walk: &mut Walk<'a>) -> Result<(), Memory>
     ensures { OnOk result (walk.new ≡ visited_module (module_of m.now) walk.old) }
 {
     let list = functions(alloc, m.defs.as_slice())?;

@@ -1,15 +1,14 @@
 // What the walk that counts knows.
 
-ghost use Rattle.std.specs.Prelude.{◌≡◌, ◌-◌, nat_lt, true, bytes_eq};
-ghost use Rattle.std.specs.List.{list_all};
+ghost use Rattle.std.specs.Prelude.{◌≡◌};
 ghost use Rattle.core_ast.specs.Degrees.{is_raising_call, is_raising_primop};
 ghost use Rattle.core_ast.specs.Rules.{is_primop};
 ghost use Rattle.core_lint.specs.Tallies.{tested, needed, limited, begun, caught, agreed};
 
 use crate::broken::note_unless;
-use core_ast::limits::ARITY_LIMIT;
 use core_ast::{Broken, Place, Rule, Var};
-use hipe_terms::Atom;
+use hipe_base::limits::ARITY_LIMIT;
+use hipe_terms::{Atom, Primop};
 
 /// The first broken rule so far, and how many functions are left before one is beyond the limit, itself counted: 1 where the
 /// next one is.
@@ -76,20 +75,12 @@ impl Tally {
     }
 }
 
-// Whether an atom is this word of ASCII.
-fn is_word(atom: &Atom, word: &str) -> bool
-    requires { list_all (λ b. nat_lt b 128) word.now ≡ true }
-    ensures { result ≡ bytes_eq atom.now word.now }
-{
-    atom.as_str() == word
-}
-
 /// Whether a call only raises: `error/1`, `throw/1` and `exit/1` of `erlang` do.
 pub fn is_raising_call(of: &Atom, name: &Atom, count: usize) -> bool
     ensures { result ≡ is_raising_call of.now name.now count }
 {
-    is_word(of, "erlang")
-        && (is_word(name, "error") || is_word(name, "throw") || is_word(name, "exit"))
+    of.has_text("erlang")
+        && (name.has_text("error") || name.has_text("throw") || name.has_text("exit"))
         && count == 1
 }
 
@@ -97,14 +88,18 @@ pub fn is_raising_call(of: &Atom, name: &Atom, count: usize) -> bool
 pub fn is_raising_primop(name: &Atom) -> bool
     ensures { result ≡ is_raising_primop name.now }
 {
-    is_word(name, "raise") || is_word(name, "match_fail")
+    match Primop::named(name) {
+        Some(primop) => primop.only_raises(),
+        None => false,
+    }
 }
 
-/// Whether this is one of the primitive operations.
+/// Whether a primitive operation of this name takes so many arguments.
 pub fn is_primop(name: &Atom, count: usize) -> bool
     ensures { result ≡ is_primop name.now count }
 {
-    (is_word(name, "raise") && count == 2)
-        || (is_word(name, "match_fail") && count == 1)
-        || (is_word(name, "build_stacktrace") && count == 1)
+    match Primop::named(name) {
+        Some(primop) => count == primop.arity(),
+        None => false,
+    }
 }

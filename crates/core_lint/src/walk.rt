@@ -9,7 +9,8 @@ use crate::broken::note_unless;
 use crate::name::Bound;
 use crate::scope::Scope;
 use core_ast::{Broken, FunName, Place, Rule, VariableName};
-use std::alloc::{AllocError, Global};
+use hipe_base::Memory;
+use std::alloc::Global;
 
 /// The names in scope, and the first broken rule so far.
 #[derive(Drop)]
@@ -37,7 +38,7 @@ impl<'a> Walk<'a> {
     }
 
     /// These names are bound together. The rule is broken at each that is the same as an earlier one.
-    pub fn bind(&mut self, alloc: Global, rule: Rule, list: &[Bound<'a>]) -> Result<(), AllocError>
+    pub fn bind(&mut self, alloc: Global, rule: Rule, list: &[Bound<'a>]) -> Result<(), Memory>
         ensures { OnOk result (self.new ≡ bound_of rule (map entry_of list.now) self.old) }
     {
         let mut seen = Scope::new(alloc);
@@ -50,7 +51,7 @@ impl<'a> Walk<'a> {
     }
 
     /// These variables are in scope from here on.
-    pub fn enter_variables(&mut self, list: &[Bound<'a>]) -> Result<(), AllocError>
+    pub fn enter_variables(&mut self, list: &[Bound<'a>]) -> Result<(), Memory>
         ensures { OnOk result (self.new ≡ entered_variables (map entry_of list.now) self.old) }
     {
         self.variables.enter_all(list)
@@ -64,7 +65,7 @@ impl<'a> Walk<'a> {
     }
 
     /// These functions are in scope from here on.
-    pub fn enter_functions(&mut self, list: &[Bound<'a>]) -> Result<(), AllocError>
+    pub fn enter_functions(&mut self, list: &[Bound<'a>]) -> Result<(), Memory>
         ensures { OnOk result (self.new ≡ entered_functions (map entry_of list.now) self.old) }
     {
         self.functions.enter_all(list)

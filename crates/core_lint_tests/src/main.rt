@@ -1,42 +1,34 @@
 // Texts and what the linter says of them, a command a line: the program with which the linter is tried.
 //
-// A command is a word, a space and the rest of the line:
+// A command is a name, a space and the rest of the line:
 //   module TEXT          whether the module of a text is good, or its first broken rule and the place
 //   body TEXT            the same of a module of one function with this body, which begins at 1:58
 //   numbered N;A;B;C     the same of the body A, `B1`, `B2` up to `BN` with commas, C
 //   functions N;A        the same of a module of so many functions, each on a line of its own from the second on, and the text A
 //
 // The lines of `stdin` and `stdout` are made by `table`, which has the expected answers by hand.
+//
+// Promises: nothing.
+//
+// May touch: memory, standard input and output.
+//
+// Files: this one alone.
 #![tactic(auto)]
 
 use core_ast::{Place, Rule};
 use core_lint::{LintRefusal, lint};
 use core_reader::read_module;
-use std::alloc::{AllocError, Global};
+use hipe_base::Memory;
+use std::alloc::Global;
 
 // The longest text that is read here, in bytes.
 const LONGEST: usize = 4_000_000;
 
-type Answer = Result<String, AllocError>;
-
-// The name of a rule.
-fn name_of(rule: Rule) -> &'static str {
-    match rule {
-        Rule::DuplicateFunction => "duplicate_function",
-        Rule::ExportUndefined => "export_undefined",
-        Rule::UnboundFunction => "unbound_function",
-        Rule::UnboundVariable => "unbound_variable",
-        Rule::DuplicateVariable => "duplicate_variable",
-        Rule::Degree => "degree",
-        Rule::ArityLimit => "arity_limit",
-        Rule::UnknownPrimop => "unknown_primop",
-        Rule::SizeLimit => "size_limit",
-    }
-}
+type Answer = Result<String, Memory>;
 
 // A broken rule and its place.
 fn broken(alloc: Global, rule: Rule, at: Place) -> Answer {
-    let name = name_of(rule);
+    let name = rule.name();
     let line = at.line;
     let col = at.col;
     format!(in alloc; "{name} {line}:{col}")
@@ -66,12 +58,7 @@ fn body(alloc: Global, body: &str) -> Answer {
 }
 
 // The parts `B1`, `B2`, .. with commas between them.
-fn push_numbered(
-    alloc: Global,
-    text: &mut String,
-    part: &str,
-    count: u64,
-) -> Result<(), AllocError> {
+fn push_numbered(alloc: Global, text: &mut String, part: &str, count: u64) -> Result<(), Memory> {
     for i in 0..count {
         if i > 0 {
             text.push_str(",")?;

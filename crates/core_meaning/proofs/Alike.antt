@@ -1,20 +1,25 @@
 -- Two runs of one expression, under two limits. What holds of the states where they begin holds to the end, if the primitive steps keep it.
 use Rattle.std.proofs.Common.{ℕ, ◌+◌, List, [], ◌∷◌, Option, Some, None}
-use Rattle.std.specs.Prelude.{Bool, true, false, if◌then◌else◌, nat_eq, length, codes, bytes_eq}
+use Rattle.std.specs.Prelude.{Bool, true, false, if◌then◌else◌, nat_eq, length, codes}
 use Rattle.hipe_terms.specs.Terms.{Term, integer, atom, nil, cons, tuple, fun, terms, listed, cells}
 use Rattle.hipe_terms.specs.Words.{list_words, tuple_words}
 use Rattle.hipe_terms.specs.Bifs.{built_in}
-use Rattle.hipe_terms.specs.Outcome.{Class, error, exit, throw, End, Outcome, bif_outcome}
+use Rattle.hipe_terms.specs.Outcome.{End, Outcome, bif_outcome}
+use Rattle.hipe_terms.specs.declared.class.Class.{Class}
+use Rattle.hipe_terms.specs.declared.primop.Primop.{Primop}
+use Rattle.hipe_terms.specs.declared.primop.Primop.TheVariants.{Raise, MatchFail, BuildStacktrace}
+use Rattle.hipe_terms.specs.Primops.{primop_named}
+use Rattle.hipe_terms.specs.declared.class.Class.TheVariants.{Error, Exit, Throw}
 use Rattle.core_ast.specs.Trees.{Expression, Expressions, no_expression, and_expression, Clauses, no_clause, and_clause}
 use Rattle.core_meaning.specs.Scopes.{names, bound_by, count_definitions, captured_by_fun, funs, funs_in_all}
 use Rattle.core_meaning.specs.Procedures.{Program}
 use Rattle.core_meaning.specs.Matching.{matched_all}
 use Rattle.core_ast.specs.Degrees.{count, count_patterns}
-use Rattle.core_meaning.specs.Meaning.{State, Ending, Run, ends, Limits, Next, Handler, Calls, worked, printing, builds, Context, part, behind, with, with_functions, value_of, values_in, function_of, fails, with_one, with_count, with_value, class_of, is_true, no_clause_for, makes_fun, makes_named, caught, causes, raises_as, raise, is_function_clause, match_fail, build_stacktrace, primop, count_clauses, tested_nodes, direct, arity_of, own_function, applies_named, comes_to, performs, applies, calls_own, calls, eval, eval_all, choose}
+use Rattle.core_meaning.specs.Meaning.{State, Ending, Run, ends, Limits, Next, Handler, Calls, worked, printing, builds, Context, part, behind, with, with_functions, value_of, values_in, function_of, fails, with_one, with_count, with_value, class_of, is_true, no_clause_for, makes_fun, makes_named, caught, causes, raises_as, raise, is_function_clause, match_fail, build_stacktrace, primop, operation, count_clauses, tested_nodes, direct, arity_of, own_function, applies_named, comes_to, performs, applies, calls_own, calls, eval, eval_all, choose}
 use Rattle.core_meaning.specs.Laws.{Grown, NextGrows, HandlerGrows}
 use Rattle.core_meaning.proofs.Growth.{grown_refl, CallGrows, bool_grows, option_grows, builds_grow, one_grows, count_grows, caught_grows, primop_grows, comes_to_grows, applies_grows, applies_named_grows, calls_grows, grows, all_grow, choose_grows}
 
--- the same place at other depths
+-- the same context at other depths
 abbrev pub moved : ℕ → ℕ → Context → Context
 moved inner depth c = record c { inner = inner; depth = depth }
 
@@ -68,8 +73,8 @@ module _ (program : Program) (L M : Limits) (R : State → State → Type 0) (D 
     value_alike None x y k l p q = step.sticks x y p
     value_alike (Some t) x y k l p q = q.alike (t ∷ []) x y p
 
-    raised_alike : (n : ℕ) (reason : Term) (x y : State) (r s : Handler) → R x y → Handlers r s → E (builds L n x (λ x. r error reason x)) (builds M n y (λ y. s error reason y))
-    raised_alike n reason x y r s p h = step.builds n x y (λ x. r error reason x) (λ y. s error reason y) p (λ x y p. h.alike error reason x y p) (λ y. h.grows error reason y)
+    raised_alike : (n : ℕ) (reason : Term) (x y : State) (r s : Handler) → R x y → Handlers r s → E (builds L n x (λ x. r Error reason x)) (builds M n y (λ y. s Error reason y))
+    raised_alike n reason x y r s p h = step.builds n x y (λ x. r Error reason x) (λ y. s Error reason y) p (λ x y p. h.alike Error reason x y p) (λ y. h.grows Error reason y)
 
     given_alike : (n : ℕ) (t : Term) (x y : State) (k l : Next) → R x y → Nexts k l → E (builds L n x (λ x. k (t ∷ []) x)) (builds M n y (λ y. l (t ∷ []) y))
     given_alike n t x y k l p q = step.builds n x y (λ x. k (t ∷ []) x) (λ y. l (t ∷ []) y) p (λ x y p. q.alike (t ∷ []) x y p) (λ y. q.grows (t ∷ []) y)
@@ -91,12 +96,12 @@ module _ (program : Program) (L M : Limits) (R : State → State → Type 0) (D 
 
     caught_alike : (class : Class) (t : Term) (x y : State) (k l : Next) → R x y → Nexts k l → E (caught L class t x k) (caught M class t y l)
     unfolding caught
-    caught_alike error t x y k l p q = given_alike _ _ x y k l p q
-    caught_alike exit t x y k l p q = given_alike _ _ x y k l p q
-    caught_alike throw t x y k l p q = q.alike (t ∷ []) x y p
+    caught_alike Error t x y k l p q = given_alike _ _ x y k l p q
+    caught_alike Exit t x y k l p q = given_alike _ _ x y k l p q
+    caught_alike Throw t x y k l p q = q.alike (t ∷ []) x y p
 
     raises_as_alike : (o : Option Class) (t : Term) (x y : State) (r s : Handler) → R x y → Handlers r s → E (raises_as o t x r) (raises_as o t y s)
-    raises_as_alike None t x y r s p h = h.alike error _ x y p
+    raises_as_alike None t x y r s p h = h.alike Error _ x y p
     raises_as_alike (Some class) t x y r s p h = h.alike class t x y p
 
     raise_alike : (ts : List Term) (x y : State) (r s : Handler) → R x y → Handlers r s → E (raise ts x r) (raise ts y s)
@@ -108,7 +113,7 @@ module _ (program : Program) (L M : Limits) (R : State → State → Type 0) (D 
     match_fail_alike : (ts : List Term) (x y : State) (r s : Handler) → R x y → Handlers r s → E (match_fail ts x r) (match_fail ts y s)
     match_fail_alike [] x y r s p h = step.sticks x y p
     match_fail_alike (t ∷ []) x y r s p h =
-        cond_alike E (is_function_clause t) (fails (codes "function_clause") x r) (r error t x) (fails (codes "function_clause") y s) (s error t y) (h.alike error _ x y p) (h.alike error t x y p)
+        cond_alike E (is_function_clause t) (fails (codes "function_clause") x r) (r Error t x) (fails (codes "function_clause") y s) (s Error t y) (h.alike Error _ x y p) (h.alike Error t x y p)
     match_fail_alike (t ∷ u ∷ ts) x y r s p h = step.sticks x y p
 
     stacktrace_alike : (ts : List Term) (x y : State) (k l : Next) → R x y → Nexts k l → E (build_stacktrace ts x k) (build_stacktrace ts y l)
@@ -116,12 +121,15 @@ module _ (program : Program) (L M : Limits) (R : State → State → Type 0) (D 
     stacktrace_alike (t ∷ []) x y k l p q = q.alike (nil ∷ []) x y p
     stacktrace_alike (t ∷ u ∷ ts) x y k l p q = step.sticks x y p
 
+    operation_alike : (o : Option Primop) (ts : List Term) (x y : State) (r s : Handler) (k l : Next) → R x y → Handlers r s → Nexts k l → E (operation o ts x r k) (operation o ts y s l)
+    operation_alike None ts x y r s k l p h q = step.sticks x y p
+    operation_alike (Some Raise) ts x y r s k l p h q = raise_alike ts x y r s p h
+    operation_alike (Some MatchFail) ts x y r s k l p h q = match_fail_alike ts x y r s p h
+    operation_alike (Some BuildStacktrace) ts x y r s k l p h q = stacktrace_alike ts x y k l p q
+
     primop_alike : (f : List ℕ) (ts : List Term) (x y : State) (r s : Handler) (k l : Next) → R x y → Handlers r s → Nexts k l → E (primop f ts x r k) (primop f ts y s l)
     unfolding primop
-    primop_alike f ts x y r s k l p h q =
-        cond_alike E (bytes_eq f (codes "raise")) _ _ _ _ (raise_alike ts x y r s p h)
-        (cond_alike E (bytes_eq f (codes "match_fail")) _ _ _ _ (match_fail_alike ts x y r s p h)
-        (cond_alike E (bytes_eq f (codes "build_stacktrace")) _ _ _ _ (stacktrace_alike ts x y k l p q) (step.sticks x y p)))
+    primop_alike f ts x y r s k l p h q = operation_alike (primop_named f) ts x y r s k l p h q
 
     comes_to_alike : (e : End) (x y : State) (r s : Handler) (k l : Next) → R x y → Handlers r s → Nexts k l → E (comes_to e x r k) (comes_to e y s l)
     comes_to_alike (End.value t) x y r s k l p h q = q.alike (t ∷ []) x y p
@@ -149,7 +157,7 @@ module _ (program : Program) (L M : Limits) (R : State → State → Type 0) (D 
       applies_named_alike (Some m) ts d e x y r s k l i p h q = call.alike m.0 m.1 ts d e x y r s k l i p h q
 
       calls_own_alike : (o : Option ℕ) (ts : List Term) (d e : ℕ) (x y : State) (r s : Handler) (k l : Next) → D d e → R x y → Handlers r s → Nexts k l → E (calls_own program L f o ts d x r k) (calls_own program M g o ts e y s l)
-      calls_own_alike None ts d e x y r s k l i p h q = h.alike error _ x y p
+      calls_own_alike None ts d e x y r s k l i p h q = h.alike Error _ x y p
       calls_own_alike (Some n) ts d e x y r s k l i p h q = call.alike n [] ts d e x y r s k l i p h q
 
       calls_alike : (m n : List ℕ) (ts : List Term) (d e : ℕ) (x y : State) (r s : Handler) (k l : Next) → D d e → R x y → Handlers r s → Nexts k l → E (calls program L f m n ts d x r k) (calls program M g m n ts e y s l)

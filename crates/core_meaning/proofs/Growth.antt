@@ -1,16 +1,21 @@
 -- Along a run the words, the claim, the work and what is printed only grow, and the fuel never does.
 use Rattle.std.proofs.Common.{◌≡◌, ℕ, zero, suc, ◌+◌, List, [], ◌∷◌, ◌++◌, Option, Some, None, refl, sym, ap, ◌∙◌, arith, append_assoc, append-nil}
-use Rattle.std.specs.Prelude.{Bool, true, false, if◌then◌else◌, nat_eq, length, slice_get, codes, bytes_eq}
+use Rattle.std.specs.Prelude.{Bool, true, false, if◌then◌else◌, nat_eq, length, slice_get, codes}
 use Rattle.hipe_terms.specs.Terms.{Term, integer, atom, nil, cons, tuple, fun, terms, listed}
 use Rattle.hipe_terms.specs.Bifs.{built_in}
-use Rattle.hipe_terms.specs.Outcome.{Class, error, exit, throw, End, Outcome, bif_outcome}
+use Rattle.hipe_terms.specs.Outcome.{End, Outcome, bif_outcome}
+use Rattle.hipe_terms.specs.declared.class.Class.{Class}
+use Rattle.hipe_terms.specs.declared.primop.Primop.{Primop}
+use Rattle.hipe_terms.specs.declared.primop.Primop.TheVariants.{Raise, MatchFail, BuildStacktrace}
+use Rattle.hipe_terms.specs.Primops.{primop_named}
+use Rattle.hipe_terms.specs.declared.class.Class.TheVariants.{Error, Exit, Throw}
 use Rattle.core_ast.specs.Trees.{Expression, Expressions, no_expression, and_expression, Clauses, no_clause, and_clause}
 use Rattle.core_meaning.specs.Scopes.{names, bound_by, count_definitions, captured_by_fun, funs, funs_in_all}
 use Rattle.core_meaning.specs.Procedures.{Procedure, Program}
 use Rattle.core_meaning.specs.Matching.{matched_all}
 use Rattle.core_ast.specs.Degrees.{count, count_patterns}
 use Rattle.core_meaning.specs.Laws.{Prefix, Later, Grown, NextGrows, HandlerGrows}
-use Rattle.core_meaning.specs.Meaning.{State, Ending, Run, ends, Limits, Next, Handler, Calls, passes, worked, printing, entering, builds, Context, part, behind, with, with_functions, value_of, values_in, function_of, fails, with_one, with_count, with_value, class_of, is_true, no_clause_for, makes_fun, makes_named, caught, causes, raises_as, raise, is_function_clause, match_fail, build_stacktrace, primop, count_clauses, tested_nodes, direct, arity_of, own_function, applies_named, comes_to, performs, applies, calls_own, calls, eval, eval_all, choose, at_entry, enters, calls_within}
+use Rattle.core_meaning.specs.Meaning.{State, Ending, Run, ends, Limits, Next, Handler, Calls, passes, worked, printing, entering, builds, Context, part, behind, with, with_functions, value_of, values_in, function_of, fails, with_one, with_count, with_value, class_of, is_true, no_clause_for, makes_fun, makes_named, caught, causes, raises_as, raise, is_function_clause, match_fail, build_stacktrace, primop, operation, count_clauses, tested_nodes, direct, arity_of, own_function, applies_named, comes_to, performs, applies, calls_own, calls, eval, eval_all, choose, at_entry, enters, calls_within}
 
 pub prefix_refl : (a : List Term) → Prefix a a
 prefix_refl a = ([], sym (append-nil a))
@@ -90,9 +95,9 @@ value_grows (Some t) s k g = g (t ∷ []) s
 
 pub no_clause_grows : (limits : Limits) (ts : List Term) (s : State) (r : Handler) → HandlerGrows r → Grown s (no_clause_for limits ts s r)
 unfolding no_clause_for
-no_clause_grows limits [] s r g = builds_grow limits _ s _ (λ s. g error _ s)
-no_clause_grows limits (t ∷ []) s r g = builds_grow limits _ s _ (λ s. g error _ s)
-no_clause_grows limits (t ∷ u ∷ ts) s r g = builds_grow limits _ s _ (λ s. g error _ s)
+no_clause_grows limits [] s r g = builds_grow limits _ s _ (λ s. g Error _ s)
+no_clause_grows limits (t ∷ []) s r g = builds_grow limits _ s _ (λ s. g Error _ s)
+no_clause_grows limits (t ∷ u ∷ ts) s r g = builds_grow limits _ s _ (λ s. g Error _ s)
 
 pub fun_grows : (limits : Limits) (n : ℕ) (o : Option (List Term)) (s : State) (k : Next) → NextGrows k → Grown s (makes_fun limits n o s k)
 unfolding makes_fun
@@ -105,12 +110,12 @@ named_grows limits (Some f) s k g = fun_grows limits f.0 (Some f.1) s k g
 
 pub caught_grows : (limits : Limits) (class : Class) (t : Term) (s : State) (k : Next) → NextGrows k → Grown s (caught limits class t s k)
 unfolding caught
-caught_grows limits error t s k g = builds_grow limits _ s _ (λ s. g _ s)
-caught_grows limits exit t s k g = builds_grow limits _ s _ (λ s. g _ s)
-caught_grows limits throw t s k g = g (t ∷ []) s
+caught_grows limits Error t s k g = builds_grow limits _ s _ (λ s. g _ s)
+caught_grows limits Exit t s k g = builds_grow limits _ s _ (λ s. g _ s)
+caught_grows limits Throw t s k g = g (t ∷ []) s
 
 raises_as_grows : (o : Option Class) (t : Term) (s : State) (r : Handler) → HandlerGrows r → Grown s (raises_as o t s r)
-raises_as_grows None t s r g = g error _ s
+raises_as_grows None t s r g = g Error _ s
 raises_as_grows (Some class) t s r g = g class t s
 
 raise_grows : (ts : List Term) (s : State) (r : Handler) → HandlerGrows r → Grown s (raise ts s r)
@@ -121,7 +126,7 @@ raise_grows (t ∷ u ∷ v ∷ ts) s r g = grown_refl _ s
 
 match_fail_grows : (ts : List Term) (s : State) (r : Handler) → HandlerGrows r → Grown s (match_fail ts s r)
 match_fail_grows [] s r g = grown_refl _ s
-match_fail_grows (t ∷ []) s r g = cond_grows (is_function_clause t) s (fails (codes "function_clause") s r) (r error t s) (g error _ s) (g error t s)
+match_fail_grows (t ∷ []) s r g = cond_grows (is_function_clause t) s (fails (codes "function_clause") s r) (r Error t s) (g Error _ s) (g Error t s)
 match_fail_grows (t ∷ u ∷ ts) s r g = grown_refl _ s
 
 stacktrace_grows : (ts : List Term) (s : State) (k : Next) → NextGrows k → Grown s (build_stacktrace ts s k)
@@ -129,12 +134,15 @@ stacktrace_grows [] s k g = grown_refl _ s
 stacktrace_grows (t ∷ []) s k g = g (nil ∷ []) s
 stacktrace_grows (t ∷ u ∷ ts) s k g = grown_refl _ s
 
+operation_grows : (o : Option Primop) (ts : List Term) (s : State) (r : Handler) (k : Next) → HandlerGrows r → NextGrows k → Grown s (operation o ts s r k)
+operation_grows None ts s r k gr gk = grown_refl _ s
+operation_grows (Some Raise) ts s r k gr gk = raise_grows ts s r gr
+operation_grows (Some MatchFail) ts s r k gr gk = match_fail_grows ts s r gr
+operation_grows (Some BuildStacktrace) ts s r k gr gk = stacktrace_grows ts s k gk
+
 pub primop_grows : (f : List ℕ) (ts : List Term) (s : State) (r : Handler) (k : Next) → HandlerGrows r → NextGrows k → Grown s (primop f ts s r k)
 unfolding primop
-primop_grows f ts s r k gr gk =
-    cond_grows (bytes_eq f (codes "raise")) s _ _ (raise_grows ts s r gr)
-    (cond_grows (bytes_eq f (codes "match_fail")) s _ _ (match_fail_grows ts s r gr)
-    (cond_grows (bytes_eq f (codes "build_stacktrace")) s _ _ (stacktrace_grows ts s k gk) (grown_refl _ s)))
+primop_grows f ts s r k gr gk = operation_grows (primop_named f) ts s r k gr gk
 
 pub comes_to_grows : (e : End) (s : State) (r : Handler) (k : Next) → HandlerGrows r → NextGrows k → Grown s (comes_to e s r k)
 comes_to_grows (End.value t) s r k gr gk = gk (t ∷ []) s
@@ -148,12 +156,12 @@ module _ (program : Program) (limits : Limits) where
   module _ (call : Calls) (call_grows : CallGrows call) where
     pub applies_grows : (t : Term) (ts : List Term) (d : ℕ) (s : State) (r : Handler) (k : Next) → HandlerGrows r → NextGrows k → Grown s (applies program limits call t ts d s r k)
     unfolding applies
-    applies_grows (fun n us) ts d s r k gr gk = cond_grows (nat_eq (arity_of program n) (length ts)) s _ _ (call_grows n (listed us) ts d s r k gr gk) (builds_grow limits _ s _ (λ s. gr error _ s))
-    applies_grows (integer i) ts d s r k gr gk = builds_grow limits _ s _ (λ s. gr error _ s)
-    applies_grows (atom a) ts d s r k gr gk = builds_grow limits _ s _ (λ s. gr error _ s)
-    applies_grows nil ts d s r k gr gk = builds_grow limits _ s _ (λ s. gr error _ s)
-    applies_grows (cons a b) ts d s r k gr gk = builds_grow limits _ s _ (λ s. gr error _ s)
-    applies_grows (tuple us) ts d s r k gr gk = builds_grow limits _ s _ (λ s. gr error _ s)
+    applies_grows (fun n us) ts d s r k gr gk = cond_grows (nat_eq (arity_of program n) (length ts)) s _ _ (call_grows n (listed us) ts d s r k gr gk) (builds_grow limits _ s _ (λ s. gr Error _ s))
+    applies_grows (integer i) ts d s r k gr gk = builds_grow limits _ s _ (λ s. gr Error _ s)
+    applies_grows (atom a) ts d s r k gr gk = builds_grow limits _ s _ (λ s. gr Error _ s)
+    applies_grows nil ts d s r k gr gk = builds_grow limits _ s _ (λ s. gr Error _ s)
+    applies_grows (cons a b) ts d s r k gr gk = builds_grow limits _ s _ (λ s. gr Error _ s)
+    applies_grows (tuple us) ts d s r k gr gk = builds_grow limits _ s _ (λ s. gr Error _ s)
 
     pub applies_named_grows : (o : Option (ℕ × List Term)) (ts : List Term) (d : ℕ) (s : State) (r : Handler) (k : Next) → HandlerGrows r → NextGrows k → Grown s (applies_named call o ts d s r k)
     unfolding applies_named
@@ -161,7 +169,7 @@ module _ (program : Program) (limits : Limits) where
     applies_named_grows (Some f) ts d s r k gr gk = call_grows f.0 f.1 ts d s r k gr gk
 
     calls_own_grows : (o : Option ℕ) (ts : List Term) (d : ℕ) (s : State) (r : Handler) (k : Next) → HandlerGrows r → NextGrows k → Grown s (calls_own program limits call o ts d s r k)
-    calls_own_grows None ts d s r k gr gk = gr error _ s
+    calls_own_grows None ts d s r k gr gk = gr Error _ s
     calls_own_grows (Some n) ts d s r k gr gk = call_grows n [] ts d s r k gr gk
 
     pub calls_grows : (m f : List ℕ) (ts : List Term) (d : ℕ) (s : State) (r : Handler) (k : Next) → HandlerGrows r → NextGrows k → Grown s (calls program limits call m f ts d s r k)

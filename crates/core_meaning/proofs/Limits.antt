@@ -5,7 +5,7 @@ use Rattle.std.proofs.lemmas.Bool.Decides.{nat_tests}
 use Rattle.hipe_terms.specs.declared.constant.Call.{Call}
 use Rattle.hipe_terms.specs.Terms.{Term, atom, term_of}
 use Rattle.hipe_terms.specs.Words.{words_of}
-use Rattle.hipe_terms.specs.Outcome.{error}
+use Rattle.hipe_terms.specs.declared.class.Class.TheVariants.{Error}
 use Rattle.core_ast.specs.Trees.{Module}
 use Rattle.core_meaning.specs.Procedures.{Procedure, Program, program_of}
 use Rattle.core_meaning.specs.Meaning.{State, Ending, Run, ends, Limits, Next, Handler, Calls, entering, builds, exported, eval, at_entry, enters, calls_within}
@@ -124,7 +124,7 @@ module _ (program : Program) (heap stack : ℕ) (frame : ℕ → ℕ) (least : (
   at_start_equal fuel arguments = record { fuel = refl; words = refl; printed = refl; room = omega arith }
 
   starts_within : (o : Option ℕ) (ts : List Term) (words fuel : ℕ) → Ends (starts program L o ts words fuel) (starts program M o ts words fuel)
-  starts_within None ts words fuel = same_at (Ending.raised error (atom (codes "undef"))) tt (at_start fuel (length ts)) (at_start fuel (length ts)) (at_start_equal fuel (length ts))
+  starts_within None ts words fuel = same_at (Ending.raised Error (atom (codes "undef"))) tt (at_start fuel (length ts)) (at_start fuel (length ts)) (at_start_equal fuel (length ts))
   starts_within (Some n) ts words fuel =
       builds_within words (at_start fuel (length ts)) (at_start fuel (length ts)) _ _ (at_start_equal fuel (length ts))
       (λ x y p. enters_within (calls_within program L fuel) (calls_within program M fuel) (calls_alike fuel) n (slice_get program.procedures n) [] ts 0 0 x y _ _ _ _ (omega arith) p at_end_handler at_end)

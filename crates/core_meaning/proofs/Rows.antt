@@ -4,7 +4,8 @@ use Rattle.std.specs.Prelude.{codes, Some, None}
 use Rattle.hipe_terms.specs.declared.place.Place.{Place}
 use Rattle.hipe_terms.specs.Terms.{Term, integer, atom, nil, cons, tuple, fun, none, more, terms}
 use Rattle.hipe_terms.specs.Bifs.{built_in}
-use Rattle.hipe_terms.specs.Outcome.{Class, error, throw}
+use Rattle.hipe_terms.specs.declared.class.Class.{Class}
+use Rattle.hipe_terms.specs.declared.class.Class.TheVariants.{Error, Throw}
 use Rattle.core_ast.specs.declared.pattern.Var.{Var}
 use Rattle.core_ast.specs.declared.tree.FunName.{FunName}
 use Rattle.core_ast.specs.Trees.{Pattern, patterns, Expression, expressions, Clause, clauses, Definition, definitions, Module}
@@ -61,7 +62,7 @@ abbrev raises : Class → Term → Ending
 raises class t = Ending.raised class t
 
 abbrev failing : List ℕ → Ending
-failing a = Ending.raised error (atom a)
+failing a = Ending.raised Error (atom a)
 
 abbrev an_atom : List ℕ → Expression
 an_atom a = Expression.Atom here a
@@ -179,7 +180,7 @@ display_prints = refl
 
 -- ---- case
 
-no_clause_matches : Ends (run (main (case_of (a_tuple (number 1 ∷ number 2 ∷ [])) (clause (Pattern.Atom here (codes "a") ∷ []) (number 1) ∷ []))) 9) (raises error (tuple_of (word (codes "case_clause") ∷ tuple_of (int 1 ∷ int 2 ∷ []) ∷ []))) 6 48
+no_clause_matches : Ends (run (main (case_of (a_tuple (number 1 ∷ number 2 ∷ [])) (clause (Pattern.Atom here (codes "a") ∷ []) (number 1) ∷ []))) 9) (raises Error (tuple_of (word (codes "case_clause") ∷ tuple_of (int 1 ∷ int 2 ∷ []) ∷ []))) 6 48
 unfolding builds with_one with_count with_value no_clause_for makes_fun caught primop performs applies calls applies_named built_in
 no_clause_matches = (refl, refl, refl)
 
@@ -191,7 +192,7 @@ two_values : Ends (run (main (case_of (Expression.Values here (expressions (numb
 unfolding builds with_one with_count with_value no_clause_for makes_fun caught primop performs applies calls applies_named built_in
 two_values = (refl, refl, refl)
 
-no_clause_for_two_values : Ends (run (main (case_of (Expression.Values here (expressions (number 1 ∷ number 2 ∷ []))) (clause (the 3 ∷ any (codes "Y") ∷ []) (number 4) ∷ []))) 9) (raises error (tuple_of (word (codes "case_clause") ∷ tuple_of (int 1 ∷ int 2 ∷ []) ∷ []))) 6 52
+no_clause_for_two_values : Ends (run (main (case_of (Expression.Values here (expressions (number 1 ∷ number 2 ∷ []))) (clause (the 3 ∷ any (codes "Y") ∷ []) (number 4) ∷ []))) 9) (raises Error (tuple_of (word (codes "case_clause") ∷ tuple_of (int 1 ∷ int 2 ∷ []) ∷ []))) 6 52
 unfolding builds with_one with_count with_value no_clause_for makes_fun caught primop performs applies calls applies_named built_in
 no_clause_for_two_values = (refl, refl, refl)
 
@@ -201,7 +202,7 @@ an_alias_binds = (refl, refl, refl)
 
 -- ---- try, catch and primops
 
-a_throw_is_raised_again : Ends (run (main (try_of (call (codes "throw") (an_atom (codes "x") ∷ [])) (codes "V" ∷ []) (variable (codes "V")) (codes "C" ∷ codes "R" ∷ codes "T" ∷ []) (primop_of (codes "raise") (variable (codes "T") ∷ variable (codes "R") ∷ [])))) 9) (raises throw (word (codes "x"))) 0 60
+a_throw_is_raised_again : Ends (run (main (try_of (call (codes "throw") (an_atom (codes "x") ∷ [])) (codes "V" ∷ []) (variable (codes "V")) (codes "C" ∷ codes "R" ∷ codes "T" ∷ []) (primop_of (codes "raise") (variable (codes "T") ∷ variable (codes "R") ∷ [])))) 9) (raises Throw (word (codes "x"))) 0 60
 unfolding builds with_one with_count with_value no_clause_for makes_fun caught primop performs applies calls applies_named built_in
 a_throw_is_raised_again = (refl, refl, refl)
 
@@ -229,17 +230,17 @@ a_function_clause : Ends (run (main (primop_of (codes "match_fail") (a_tuple (an
 unfolding builds with_one with_count with_value no_clause_for makes_fun caught primop performs applies calls applies_named built_in
 a_function_clause = (refl, refl, refl)
 
-another_failed_match : Ends (run (main (primop_of (codes "match_fail") (number 1 ∷ []))) 9) (raises error (int 1)) 0 24
+another_failed_match : Ends (run (main (primop_of (codes "match_fail") (number 1 ∷ []))) 9) (raises Error (int 1)) 0 24
 unfolding builds with_one with_count with_value no_clause_for makes_fun caught primop performs applies calls applies_named built_in
 another_failed_match = (refl, refl, refl)
 
 -- ---- funs and applications
 
-a_wrong_number_of_arguments : Ends (run (main (let_in (codes "F" ∷ []) (Expression.Lambda here here (var (codes "X") ∷ []) (variable (codes "X"))) (Expression.Apply here (variable (codes "F")) (expressions (number 1 ∷ number 2 ∷ []))))) 9) (raises error (tuple_of (word (codes "badarity") ∷ tuple_of (fun 1 none ∷ cons (int 1) (cons (int 2) nil) ∷ []) ∷ []))) 12 48
+a_wrong_number_of_arguments : Ends (run (main (let_in (codes "F" ∷ []) (Expression.Lambda here here (var (codes "X") ∷ []) (variable (codes "X"))) (Expression.Apply here (variable (codes "F")) (expressions (number 1 ∷ number 2 ∷ []))))) 9) (raises Error (tuple_of (word (codes "badarity") ∷ tuple_of (fun 1 none ∷ cons (int 1) (cons (int 2) nil) ∷ []) ∷ []))) 12 48
 unfolding builds with_one with_count with_value no_clause_for makes_fun caught primop performs applies calls applies_named built_in
 a_wrong_number_of_arguments = (refl, refl, refl)
 
-no_fun : Ends (under 3 1024 (main (Expression.Apply here (an_atom (codes "x")) (expressions (number 1 ∷ [])))) 9) (raises error (tuple_of (word (codes "badfun") ∷ word (codes "x") ∷ []))) 3 28
+no_fun : Ends (under 3 1024 (main (Expression.Apply here (an_atom (codes "x")) (expressions (number 1 ∷ [])))) 9) (raises Error (tuple_of (word (codes "badfun") ∷ word (codes "x") ∷ []))) 3 28
 unfolding builds with_one with_count with_value no_clause_for makes_fun caught primop performs applies calls applies_named built_in
 no_fun = (refl, refl, refl)
 

@@ -2,7 +2,7 @@
 use Rattle.std.specs.Prelude.{◌≡◌, ℕ, ◌+◌, ◌<◌, ◌≤◌, List, ◌++◌, Some}
 use Rattle.hipe_terms.specs.declared.constant.Call.{Call}
 use Rattle.hipe_terms.specs.Terms.{Term}
-use Rattle.hipe_terms.specs.Outcome.{Class}
+use Rattle.hipe_terms.specs.declared.class.Class.{Class}
 use Rattle.core_ast.specs.Trees.{Module, Expression}
 use Rattle.core_meaning.specs.Procedures.{Program, program_of}
 use Rattle.core_meaning.specs.Meaning.{State, Ending, Run, Limits, Next, Handler, Context, eval, calls_within}
@@ -60,7 +60,7 @@ IsPlain Ending.stack_full = ⊥
 IsPlain e = Unit {0}
 
 -- The run x under limits on the heap and the stack, and the whole run y: x is y within the heap; or the words of y pass the heap, and x ends
--- there; or the claim of y passes the stack, and x ends at an entry. In the last two cases x printed a front of what y does.
+-- there; or the claim of y passes the stack, and x ends at an entry. In the last two cases x printed a prefix of what y does.
 pub data Within (heap stack : ℕ) (x y : Run) : Type 0 where
   same : x.ending ≡ y.ending → IsPlain y.ending → x.state.fuel ≡ y.state.fuel → x.state.printed ≡ y.state.printed → x.state.words ≡ y.state.words → y.state.words ≤ heap → Within heap stack x y
   heap_full : x.ending ≡ Ending.heap_full → heap < y.state.words → Prefix x.state.printed y.state.printed → Within heap stack x y

@@ -7,7 +7,13 @@ use Rattle.std.specs.List.{list_any}
 use Rattle.hipe_terms.specs.Terms.{Term, integer, atom, nil, tuple, fun, more, terms, listed, cells}
 use Rattle.hipe_terms.specs.Bifs.{built_in}
 use Rattle.hipe_terms.specs.Words.{list_words, tuple_words}
-use Rattle.hipe_terms.specs.Outcome.{Class, error, exit, throw, End, Outcome, bif_outcome}
+use Rattle.hipe_terms.specs.Outcome.{End, Outcome, bif_outcome}
+use Rattle.hipe_terms.specs.declared.class.Class.{Class}
+use Rattle.hipe_terms.specs.declared.class.Class.TheVariants.{Error, Exit, Throw}
+use Rattle.hipe_terms.specs.declared.primop.Primop.{Primop}
+use Rattle.hipe_terms.specs.declared.primop.Primop.TheVariants.{Raise, MatchFail, BuildStacktrace}
+use Rattle.hipe_terms.specs.Classes.{class_name, class_named}
+use Rattle.hipe_terms.specs.Primops.{primop_named}
 use Rattle.core_ast.specs.declared.tree.FunName.{FunName}
 use Rattle.core_ast.specs.Trees.{Expression, Expressions, no_expression, and_expression, Clauses, no_clause, and_clause, Definitions}
 use Rattle.core_ast.specs.Nodes.{patterns_nodes}
@@ -85,7 +91,7 @@ builds limits n s go = if passes (s.words + n) limits.heap then ends Ending.heap
 -- ---- where an expression stands
 
 -- The scope and the values by slot; the number of the first fun in the expression; the depth behind the activation's own frame, and the depth
--- at which an application at this place stands, which is less where the place is a tail position.
+-- at which an application stands there, which is less in a tail position.
 pub record Context : Type 0 where
   pub scope : Scope
   pub bound : List Term
@@ -93,19 +99,19 @@ pub record Context : Type 0 where
   pub inner : ℕ
   pub depth : ℕ
 
--- the place of a part that is in no tail position
+-- the context of a part that is in no tail position
 abbrev pub part : Context → Context
 part c = record c { depth = c.inner }
 
--- the place behind so many funs
+-- the context behind so many funs
 abbrev pub behind : ℕ → Context → Context
 behind n c = record c { number = c.number + n }
 
--- the place where these variables are bound too
+-- the context where these variables are bound too
 abbrev pub with : List (List ℕ) → List Term → Context → Context
 with xs ts c = record c { scope = binding (length c.bound) xs c.scope; bound = c.bound ++ ts }
 
--- the place where the functions of a `letrec` are known too, behind them
+-- the context where the functions of a `letrec` are known too, behind them
 abbrev pub with_functions : Definitions → Context → Context
 with_functions ds c = record c { scope = letrec_scope c.number ds c.scope; number = c.number + funs_in_definitions ds }
 
@@ -142,7 +148,7 @@ abbrev pub pair : Term → Term → Term
 pair t u = tuple (terms (t ∷ u ∷ []))
 
 abbrev pub fails : List ℕ → State → Handler → Run
-fails reason s r = r error (atom reason) s
+fails reason s r = r Error (atom reason) s
 
 -- goes on with the only value
 unfoldable pub with_one : List Term → State → (Term → State → Run) → Run
@@ -158,12 +164,7 @@ with_value None s k = ends Ending.stuck s
 with_value (Some t) s k = k (t ∷ []) s
 
 abbrev pub class_atom : Class → Term
-class_atom error = atom (codes "error")
-class_atom exit = atom (codes "exit")
-class_atom throw = atom (codes "throw")
-
-abbrev pub class_named : List ℕ → Option Class
-class_named a = if bytes_eq a (codes "error") then Some error else if bytes_eq a (codes "exit") then Some exit else if bytes_eq a (codes "throw") then Some throw else None
+class_atom class = atom (class_name class)
 
 abbrev pub class_of : Term → Option Class
 class_of (atom a) = class_named a
@@ -175,8 +176,8 @@ is_true t = false
 
 -- no clause was chosen
 unfoldable pub no_clause_for : Limits → List Term → State → Handler → Run
-no_clause_for limits (t ∷ []) s r = builds limits (tuple_words 2) s (λ s. r error (pair (atom (codes "case_clause")) t) s)
-no_clause_for limits ts s r = builds limits (tuple_words 2 + tuple_words (length ts)) s (λ s. r error (pair (atom (codes "case_clause")) (tuple (terms ts))) s)
+no_clause_for limits (t ∷ []) s r = builds limits (tuple_words 2) s (λ s. r Error (pair (atom (codes "case_clause")) t) s)
+no_clause_for limits ts s r = builds limits (tuple_words 2 + tuple_words (length ts)) s (λ s. r Error (pair (atom (codes "case_clause")) (tuple (terms ts))) s)
 
 -- a fun as a value, with what it captured
 unfoldable pub makes_fun : Limits → ℕ → Option (List Term) → State → Next → Run
@@ -189,9 +190,9 @@ makes_named limits (Some f) s k = makes_fun limits f.0 (Some f.1) s k
 
 -- what `catch` gives where a class is raised
 unfoldable pub caught : Limits → Class → Term → State → Next → Run
-caught limits throw t s k = k (t ∷ []) s
-caught limits exit t s k = builds limits (tuple_words 2) s (λ s. k (pair (atom (codes "EXIT")) t ∷ []) s)
-caught limits error t s k = builds limits (tuple_words 2 + tuple_words 2) s (λ s. k (pair (atom (codes "EXIT")) (pair t nil) ∷ []) s)
+caught limits Throw t s k = k (t ∷ []) s
+caught limits Exit t s k = builds limits (tuple_words 2) s (λ s. k (pair (atom (codes "EXIT")) t ∷ []) s)
+caught limits Error t s k = builds limits (tuple_words 2 + tuple_words 2) s (λ s. k (pair (atom (codes "EXIT")) (pair t nil) ∷ []) s)
 
 -- what the variables of `catch` in a `try` are bound to: class, reason and, where there are three, the trace
 abbrev pub causes : Class → Term → ℕ → Option (List Term)
@@ -216,7 +217,7 @@ is_function_clause t = false
 
 -- `match_fail`: the reason, which stands in a tuple where no clause of a function matched
 abbrev pub match_fail : List Term → State → Handler → Run
-match_fail (t ∷ []) s r = if is_function_clause t then fails (codes "function_clause") s r else r error t s
+match_fail (t ∷ []) s r = if is_function_clause t then fails (codes "function_clause") s r else r Error t s
 match_fail ts s r = ends Ending.stuck s
 
 -- `build_stacktrace`: there are no traces
@@ -224,12 +225,15 @@ abbrev pub build_stacktrace : List Term → State → Next → Run
 build_stacktrace (t ∷ []) s k = k (nil ∷ []) s
 build_stacktrace ts s k = ends Ending.stuck s
 
+abbrev pub operation : Option Primop → List Term → State → Handler → Next → Run
+operation None ts s r k = ends Ending.stuck s
+operation (Some Raise) ts s r k = raise ts s r
+operation (Some MatchFail) ts s r k = match_fail ts s r
+operation (Some BuildStacktrace) ts s r k = build_stacktrace ts s k
+
+-- the operation with this name
 unfoldable pub primop : List ℕ → List Term → State → Handler → Next → Run
-primop f ts s r k =
-    if bytes_eq f (codes "raise") then raise ts s r
-    else if bytes_eq f (codes "match_fail") then match_fail ts s r
-    else if bytes_eq f (codes "build_stacktrace") then build_stacktrace ts s k
-    else ends Ending.stuck s
+primop f ts s r k = operation (primop_named f) ts s r k
 
 -- ---- applications
 
@@ -284,8 +288,8 @@ module _ (program : Program) (limits : Limits) where
   unfoldable pub applies : Calls → Term → List Term → ℕ → State → Handler → Next → Run
   applies call (fun n captured) ts d s r k =
       if arity_of program n == length ts then call n (listed captured) ts d s r k
-      else builds limits (tuple_words 2 + tuple_words 2 + list_words (length ts)) s (λ s. r error (pair (atom (codes "badarity")) (pair (fun n captured) (cells ts nil))) s)
-  applies call t ts d s r k = builds limits (tuple_words 2) s (λ s. r error (pair (atom (codes "badfun")) t) s)
+      else builds limits (tuple_words 2 + tuple_words 2 + list_words (length ts)) s (λ s. r Error (pair (atom (codes "badarity")) (pair (fun n captured) (cells ts nil))) s)
+  applies call t ts d s r k = builds limits (tuple_words 2) s (λ s. r Error (pair (atom (codes "badfun")) t) s)
 
   abbrev pub calls_own : Calls → Option ℕ → List Term → ℕ → State → Handler → Next → Run
   calls_own call (Some n) ts d s r k = call n [] ts d s r k

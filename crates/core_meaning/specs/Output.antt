@@ -2,7 +2,7 @@
 use Rattle.std.specs.Prelude.{ℕ, List, [], ◌∷◌, ◌++◌, map, flat_map, codes, Option, Some, None}
 use Rattle.hipe_terms.specs.Terms.{Term}
 use Rattle.hipe_terms.specs.Shown.{Names, shown}
-use Rattle.hipe_terms.specs.Outcome.{Class, error, exit, throw}
+use Rattle.hipe_terms.specs.Classes.{class_name}
 use Rattle.core_meaning.specs.Procedures.{Program}
 use Rattle.core_meaning.specs.Meaning.{Ending}
 
@@ -17,13 +17,8 @@ new_line = 10 ∷ []
 abbrev pub printed_lines : Names → List Term → List ℕ
 printed_lines names ts = flat_map (λ t. shown names t ++ new_line) ts
 
-abbrev pub class_word : Class → List ℕ
-class_word error = codes "error "
-class_word exit = codes "exit "
-class_word throw = codes "throw "
-
 -- the line of a run that returned one value or raised a class; no other run has one
 abbrev pub result_line : Names → Ending → Option (List ℕ)
 result_line names (Ending.values (t ∷ [])) = Some (codes "value " ++ shown names t ++ new_line)
-result_line names (Ending.raised class reason) = Some (class_word class ++ shown names reason ++ new_line)
+result_line names (Ending.raised class reason) = Some (class_name class ++ codes " " ++ shown names reason ++ new_line)
 result_line names e = None

@@ -3,7 +3,7 @@ use Rattle.std.specs.Prelude.{ℕ, List, [], length, map, sum, codes, slice_get,
 use Rattle.hipe_terms.specs.declared.constant.Call.{Call}
 use Rattle.hipe_terms.specs.Terms.{Term, atom, term_of}
 use Rattle.hipe_terms.specs.Words.{words_of}
-use Rattle.hipe_terms.specs.Outcome.{error}
+use Rattle.hipe_terms.specs.declared.class.Class.TheVariants.{Error}
 use Rattle.core_ast.specs.declared.tree.FunName.{FunName}
 use Rattle.core_ast.specs.Trees.{Module}
 use Rattle.core_meaning.specs.Procedures.{Procedure, Program, claim_of, program_of}
@@ -26,7 +26,7 @@ called_name c = record { name = c.name; arity = length c.args }
 
 -- the function is entered with the call's constants, which are built first; entering it spends no fuel
 abbrev pub starts : Program → Limits → Option ℕ → List Term → (words fuel : ℕ) → Run
-starts program limits None ts words fuel = ends (Ending.raised error (atom (codes "undef"))) (at_start fuel (length ts))
+starts program limits None ts words fuel = ends (Ending.raised Error (atom (codes "undef"))) (at_start fuel (length ts))
 starts program limits (Some n) ts words fuel =
     builds limits words (at_start fuel (length ts))
     (λ s. enters program limits (calls_within program limits fuel) n (slice_get program.procedures n) [] ts 0 s (λ class reason s. ends (Ending.raised class reason) s) (λ us s. ends (Ending.values us) s))

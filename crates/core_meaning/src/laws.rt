@@ -8,7 +8,7 @@ pub fn counts_grow()
 {}
 
 /// More fuel changes nothing once a run ends otherwise than by spent fuel. Where the fuel was spent, more fuel prints, builds and claims at
-/// least as much, and what was printed is a front of it.
+/// least as much, and what was printed is a prefix of it.
 pub fn more_fuel_agrees()
     ensures agrees { MoreFuelAgrees }
 {}
@@ -20,7 +20,7 @@ pub fn spent_fuel_is_gone()
 
 /// A run under limits on the heap and the stack, for real frames that are at most what is claimed, is the whole run within the heap; or it
 /// ends where the heap is full, and the words of the whole run pass the heap; or it ends where the stack is full, and the claim of the
-/// whole run passes the stack. What it printed is a front of what the whole run prints.
+/// whole run passes the stack. What it printed is a prefix of what the whole run prints.
 pub fn limits_are_exact()
     ensures exact { LimitsAreExact }
 {}

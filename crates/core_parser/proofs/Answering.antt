@@ -10,9 +10,10 @@ use Rattle.core_grammar.specs.declared.terminal.Terminal.{Terminal}
 use Rattle.core_grammar.specs.Leave.{Need, Leave, token}
 use Rattle.core_grammar.specs.Language.{Derives, DerivesCall, limit, any, any_operand, Viable, Fine, is_foreign, IsOutside, foreign_part, operand_of_call, Stops, Refused, at_terminal, at_text_end, RefusedCall, call_at_terminal, call_at_text_end, IsAnswer, IsCallAnswer}
 use Rattle.core_grammar.specs.Grammar as G
+use Rattle.core_parser.specs.declared.moved.Wanted.{Wanted}
 use Rattle.core_parser.specs.declared.value.Value.{Value}
 use Rattle.core_parser.specs.Values.{Values, top, to_module, to_call}
-use Rattle.core_parser.specs.Machine.{Symbols, Move, Go, No, move, goes, why, why_not, has_operand, all_ok, run, Answer, module_start, call_start, module_read, call_read}
+use Rattle.core_parser.specs.Machine.{Symbols, Move, Go, No, move, wanted_by, why, outside_of, why_not, has_operand, all_ok, run, Answer, module_start, call_start, module_read, call_read}
 use Rattle.core_parser.proofs.Meaning.{Holds, done, on, module', bare_atom, wants, make, arguments_first}
 use Rattle.core_parser.proofs.Modules.{derived_runs, derived_call_runs}
 use Rattle.core_parser.proofs.Ends.{Foreign, float, receive, hash, tilde, foreign_kind, foreign_stops, operand_free, integer_is_free}
@@ -45,58 +46,58 @@ module _ (z : Place) (n : ℕ) where
   viable : (us : List Terminal) (ss' : Symbols) (vs' : Values) → Path z n module_start [] us ss' vs' → Viable any us
   viable = R.viable_of z n Module Derives Value.Module module_start complete holds_module
 
-  stuck : (ok : Leave) → R.Loose ok → (us : List Terminal) (t : Terminal) (ss' : Symbols) (vs' : Values) (integer : Bool) → Path z n module_start [] us ss' vs' → move ss' vs' t.kind t.at ≡ No integer → Viable ok (us ++ t ∷ []) → ⊥
+  stuck : (ok : Leave) → R.Loose ok → (us : List Terminal) (t : Terminal) (ss' : Symbols) (vs' : Values) (wanted : Wanted) → Path z n module_start [] us ss' vs' → move ss' vs' t.kind t.at ≡ No wanted → Viable ok (us ++ t ∷ []) → ⊥
   stuck ok l = R.stuck z n Module Derives Value.Module module_start complete holds_module ok (loose_is_wider z n ok l)
 
   pub goes_on : (ok : Leave) → R.Loose ok → (us : List Terminal) (t : Terminal) (ss' ss2 : Symbols) (vs' vs2 : Values) (needs : List Need) → Path z n module_start [] us ss' vs' → move ss' vs' t.kind t.at ≡ Go ss2 vs2 needs → ((xs : List Terminal) → all_ok ok needs xs ≡ true) → Viable ok (us ++ t ∷ [])
   goes_on = R.goes_on z n Module Derives Value.Module module_start complete holds_module
 
   -- where an integer could stand
-  integer_goes_on : (us : List Terminal) (p : Place) (ss' : Symbols) (vs' : Values) → Path z n module_start [] us ss' vs' → goes (move ss' vs' (Kind.Natural 0) p) ≡ true → Viable any (us ++ token (Kind.Natural 0) p ∷ [])
+  integer_goes_on : (us : List Terminal) (p : Place) (ss' : Symbols) (vs' : Values) → Path z n module_start [] us ss' vs' → wanted_by (move ss' vs' (Kind.Natural 0) p) ≡ Wanted.Integer → Viable any (us ++ token (Kind.Natural 0) p ∷ [])
   integer_goes_on us p ss' vs' path g = by_move (move ss' vs' (Kind.Natural 0) p) refl g (integer_is_free ss' vs' p)
     where
-      by_move : (m : Move) → move ss' vs' (Kind.Natural 0) p ≡ m → goes m ≡ true → operand_free m ≡ true → Viable any (us ++ token (Kind.Natural 0) p ∷ [])
-      by_move (No integer) e g f = cc
+      by_move : (m : Move) → move ss' vs' (Kind.Natural 0) p ≡ m → wanted_by m ≡ Wanted.Integer → operand_free m ≡ true → Viable any (us ++ token (Kind.Natural 0) p ∷ [])
+      by_move (No wanted) e g f = cc
       by_move (Go ss2 vs2 needs) e g f = goes_on any any_loose us (token (Kind.Natural 0) p) ss' ss2 vs' vs2 needs path e (λ xs. others_are_any needs xs (is_free needs f))
 
-  integer_stuck : (us : List Terminal) (p : Place) (ss' : Symbols) (vs' : Values) → Path z n module_start [] us ss' vs' → goes (move ss' vs' (Kind.Natural 0) p) ≡ false → Viable any (us ++ token (Kind.Natural 0) p ∷ []) → ⊥
+  integer_stuck : (us : List Terminal) (p : Place) (ss' : Symbols) (vs' : Values) → Path z n module_start [] us ss' vs' → wanted_by (move ss' vs' (Kind.Natural 0) p) ≡ Wanted.Other → Viable any (us ++ token (Kind.Natural 0) p ∷ []) → ⊥
   integer_stuck us p ss' vs' path g = by_move (move ss' vs' (Kind.Natural 0) p) refl g
     where
-      by_move : (m : Move) → move ss' vs' (Kind.Natural 0) p ≡ m → goes m ≡ false → Viable any (us ++ token (Kind.Natural 0) p ∷ []) → ⊥
-      by_move (No integer) e g v = stuck any any_loose us (token (Kind.Natural 0) p) ss' vs' integer path e v
+      by_move : (m : Move) → move ss' vs' (Kind.Natural 0) p ≡ m → wanted_by m ≡ Wanted.Other → Viable any (us ++ token (Kind.Natural 0) p ∷ []) → ⊥
+      by_move (No wanted) e g v = stuck any any_loose us (token (Kind.Natural 0) p) ss' vs' wanted path e v
       by_move (Go ss2 vs2 needs) e g v = cc
 
   -- a terminal of the profile that has no move
-  inside : (us : List Terminal) (t : Terminal) (ss' : Symbols) (vs' : Values) (integer : Bool) → Path z n module_start [] us ss' vs' → move ss' vs' t.kind t.at ≡ No integer → is_foreign t.kind ≡ false → Stops n us t Fault.Syntax
-  inside us t ss' vs' integer path e f = (stuck any any_loose us t ss' vs' integer path e, outside)
+  inside : (us : List Terminal) (t : Terminal) (ss' : Symbols) (vs' : Values) (wanted : Wanted) → Path z n module_start [] us ss' vs' → move ss' vs' t.kind t.at ≡ No wanted → is_foreign t.kind ≡ false → Stops n us t Fault.Syntax
+  inside us t ss' vs' wanted path e f = (stuck any any_loose us t ss' vs' wanted path e, outside)
     where
       outside : IsOutside us t → ⊥
       outside (foreign_part h v) = let a : true ≡ false = sym h ∙ f in cc
-      outside (operand_of_call before v) = stuck any_operand any_operand_loose us t ss' vs' integer path e v
+      outside (operand_of_call before v) = stuck any_operand any_operand_loose us t ss' vs' wanted path e v
 
   -- a foreign terminal that has no move
-  foreign : (u : Foreign) → is_foreign (foreign_kind u) ≡ true → (us : List Terminal) (p : Place) (ss' : Symbols) (vs' : Values) (integer : Bool) → Path z n module_start [] us ss' vs' → move ss' vs' (foreign_kind u) p ≡ No integer → Stops n us (token (foreign_kind u) p) (if integer then Fault.NotInProfile else Fault.Syntax)
-  foreign u is us p ss' vs' integer path e = by_integer integer (foreign_stops u ss' vs' p integer e) (stuck any any_loose us (token (foreign_kind u) p) ss' vs' integer path e) (stuck any_operand any_operand_loose us (token (foreign_kind u) p) ss' vs' integer path e)
+  foreign : (u : Foreign) → is_foreign (foreign_kind u) ≡ true → (us : List Terminal) (p : Place) (ss' : Symbols) (vs' : Values) (wanted : Wanted) → Path z n module_start [] us ss' vs' → move ss' vs' (foreign_kind u) p ≡ No wanted → Stops n us (token (foreign_kind u) p) (outside_of wanted)
+  foreign u is us p ss' vs' wanted path e = by_integer wanted (foreign_stops u ss' vs' p wanted e) (stuck any any_loose us (token (foreign_kind u) p) ss' vs' wanted path e) (stuck any_operand any_operand_loose us (token (foreign_kind u) p) ss' vs' wanted path e)
     where
-      outside : goes (move ss' vs' (Kind.Natural 0) p) ≡ false → (Viable any_operand (us ++ token (foreign_kind u) p ∷ []) → ⊥) → IsOutside us (token (foreign_kind u) p) → ⊥
+      outside : wanted_by (move ss' vs' (Kind.Natural 0) p) ≡ Wanted.Other → (Viable any_operand (us ++ token (foreign_kind u) p ∷ []) → ⊥) → IsOutside us (token (foreign_kind u) p) → ⊥
       outside g s (foreign_part h v) = integer_stuck us p ss' vs' path g v
       outside g s (operand_of_call before v) = s v
 
-      by_integer : (integer : Bool) → goes (move ss' vs' (Kind.Natural 0) p) ≡ integer → (Viable any (us ++ token (foreign_kind u) p ∷ []) → ⊥) → (Viable any_operand (us ++ token (foreign_kind u) p ∷ []) → ⊥) → Stops n us (token (foreign_kind u) p) (if integer then Fault.NotInProfile else Fault.Syntax)
-      by_integer true g s s2 = (s, foreign_part is (integer_goes_on us p ss' vs' path g))
-      by_integer false g s s2 = (s, outside g s2)
+      by_integer : (wanted : Wanted) → wanted_by (move ss' vs' (Kind.Natural 0) p) ≡ wanted → (Viable any (us ++ token (foreign_kind u) p ∷ []) → ⊥) → (Viable any_operand (us ++ token (foreign_kind u) p ∷ []) → ⊥) → Stops n us (token (foreign_kind u) p) (outside_of wanted)
+      by_integer Wanted.Integer g s s2 = (s, foreign_part is (integer_goes_on us p ss' vs' path g))
+      by_integer Wanted.Other g s s2 = (s, outside g s2)
 
-  pub stops : (us : List Terminal) (k : Kind) (p : Place) (ss' : Symbols) (vs' : Values) (integer : Bool) → Path z n module_start [] us ss' vs' → move ss' vs' k p ≡ No integer → Stops n us (token k p) (why k integer)
-  stops us Kind.Float p ss' vs' integer path e = foreign float refl us p ss' vs' integer path e
-  stops us (Kind.Mark Mark.Receive) p ss' vs' integer path e = foreign receive refl us p ss' vs' integer path e
-  stops us (Kind.Mark Mark.Hash) p ss' vs' integer path e = foreign hash refl us p ss' vs' integer path e
-  stops us (Kind.Mark Mark.Tilde) p ss' vs' integer path e = foreign tilde refl us p ss' vs' integer path e
-  stops us (Kind.Mark m) p ss' vs' integer path e = inside us (token (Kind.Mark m) p) ss' vs' integer path e refl
-  stops us (Kind.Atom a) p ss' vs' integer path e = inside us (token (Kind.Atom a) p) ss' vs' integer path e refl
-  stops us (Kind.Variable x) p ss' vs' integer path e = inside us (token (Kind.Variable x) p) ss' vs' integer path e refl
-  stops us (Kind.Natural i) p ss' vs' integer path e = inside us (token (Kind.Natural i) p) ss' vs' integer path e refl
-  stops us (Kind.Integer i) p ss' vs' integer path e = inside us (token (Kind.Integer i) p) ss' vs' integer path e refl
-  stops us (Kind.Text s) p ss' vs' integer path e = inside us (token (Kind.Text s) p) ss' vs' integer path e refl
+  pub stops : (us : List Terminal) (k : Kind) (p : Place) (ss' : Symbols) (vs' : Values) (wanted : Wanted) → Path z n module_start [] us ss' vs' → move ss' vs' k p ≡ No wanted → Stops n us (token k p) (why k wanted)
+  stops us Kind.Float p ss' vs' wanted path e = foreign float refl us p ss' vs' wanted path e
+  stops us (Kind.Mark Mark.Receive) p ss' vs' wanted path e = foreign receive refl us p ss' vs' wanted path e
+  stops us (Kind.Mark Mark.Hash) p ss' vs' wanted path e = foreign hash refl us p ss' vs' wanted path e
+  stops us (Kind.Mark Mark.Tilde) p ss' vs' wanted path e = foreign tilde refl us p ss' vs' wanted path e
+  stops us (Kind.Mark m) p ss' vs' wanted path e = inside us (token (Kind.Mark m) p) ss' vs' wanted path e refl
+  stops us (Kind.Atom a) p ss' vs' wanted path e = inside us (token (Kind.Atom a) p) ss' vs' wanted path e refl
+  stops us (Kind.Variable x) p ss' vs' wanted path e = inside us (token (Kind.Variable x) p) ss' vs' wanted path e refl
+  stops us (Kind.Natural i) p ss' vs' wanted path e = inside us (token (Kind.Natural i) p) ss' vs' wanted path e refl
+  stops us (Kind.Integer i) p ss' vs' wanted path e = inside us (token (Kind.Integer i) p) ss' vs' wanted path e refl
+  stops us (Kind.Text s) p ss' vs' wanted path e = inside us (token (Kind.Text s) p) ss' vs' wanted path e refl
 
   -- a terminal that has a move and no leave
   pub no_leave : (us : List Terminal) (t : Terminal) (ws : List Terminal) (ss' ss2 : Symbols) (vs' vs2 : Values) (needs : List Need) → Path z n module_start [] us ss' vs' → move ss' vs' t.kind t.at ≡ Go ss2 vs2 needs → all_ok (limit n) needs (t ∷ ws) ≡ false → Stops n us t (why_not needs)
@@ -113,14 +114,14 @@ module _ (z : Place) (n : ℕ) where
       )
 
   refused_of : (ts : List Terminal) (f : Fault) (p : Place) → Found z n module_start [] ts f p → Refused n z ts f p
-  refused_of ts f p (found_none us t ws ss' vs' integer is path none) = at_terminal us t ws is (fine us ss' vs' path) (stops us t.kind t.at ss' vs' integer path none)
+  refused_of ts f p (found_none us t ws ss' vs' wanted is path none) = at_terminal us t ws is (fine us ss' vs' path) (stops us t.kind t.at ss' vs' wanted path none)
   refused_of ts f p (found_not_allowed us t ws ss' ss2 vs' vs2 needs is path e over) = at_terminal us t ws is (fine us ss' vs' path) (no_leave us t ws ss' ss2 vs' vs2 needs path e over)
   refused_of ts f p (found_end s ss' vs' path) = at_text_end (fine ts (s ∷ ss') vs' path) (R.not_at_end z n Module Derives Value.Module module_start complete holds_module ts s ss' vs' path)
 
   refused_call_of : (ts : List Terminal) (f : Fault) (p : Place) → Found z n call_start [] ts f p → RefusedCall n z ts p
-  refused_call_of ts f p (found_none us t ws ss' vs' integer is path none) =
+  refused_call_of ts f p (found_none us t ws ss' vs' wanted is path none) =
       call_at_terminal us t ws is (R.fine_of z n Call DerivesCall Value.Call call_start complete_call holds_call us ss' vs' path)
-      (R.stuck_within z n Call DerivesCall Value.Call call_start complete_call holds_call us t ss' vs' integer path none)
+      (R.stuck_within z n Call DerivesCall Value.Call call_start complete_call holds_call us t ss' vs' wanted path none)
   refused_call_of ts f p (found_not_allowed us t ws ss' ss2 vs' vs2 needs is path e over) =
       call_at_terminal us t ws is (R.fine_of z n Call DerivesCall Value.Call call_start complete_call holds_call us ss' vs' path)
       (R.too_deep z n Call DerivesCall Value.Call call_start complete_call holds_call us t (t ∷ ws) ss' ss2 vs' vs2 needs path e over)

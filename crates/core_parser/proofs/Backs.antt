@@ -1,5 +1,5 @@
 -- Where the moves of parts, patterns, elements and lists lead, the grammar leads.
-use Rattle.std.proofs.Common.{◌≡◌, ℕ, ◌+◌, List, [], ◌∷◌, Bool, true, false, ◌&&◌, if◌then◌else◌, refl, ap, sym, ◌∙◌, subst, get_or}
+use Rattle.std.proofs.Common.{◌≡◌, ℕ, ◌+◌, List, [], ◌∷◌, Bool, true, false, ◌&&◌, if◌then◌else◌, refl, sym, subst}
 use Rattle.hipe_terms.specs.declared.place.Place.{Place}
 use Rattle.core_ast.specs.declared.pattern.Var.{Var}
 use Rattle.core_ast.specs.declared.pattern.Pattern.{Pattern}
@@ -18,57 +18,10 @@ use Rattle.core_parser.specs.declared.symbol.Part.{Part}
 use Rattle.core_parser.specs.declared.symbol.Symbol.{Symbol}
 use Rattle.core_parser.specs.declared.symbol.Term.{Term}
 use Rattle.core_parser.specs.Values.{Values}
-use Rattle.core_parser.specs.Machine.{Symbols, Move, Go, No, move, all_ok, code, closes, deeper, annotation, annotation_list, alias_of, arguments}
+use Rattle.core_parser.specs.Machine.{Symbols, Move, Go, No, move, all_ok, closes, deeper, annotation, annotation_list, alias_of, arguments}
 use Rattle.core_parser.specs.Machine as M
 use Rattle.core_parser.proofs.Steps.{closing}
 use Rattle.core_parser.proofs.Meaning.{wants, make, bare_module, bare_name, bare_atom, bare_operand, bare_variable, bare_constant, bare_fun, bare_expression, module', name, atom, operand, variable, constant, fun, expression, no_arity, slash, arity, item_variable, item_export, item_attribute, item_expression, item_pattern, item_constant, first_none, first_some, rest_none, rest_more, cells_none, cells_some, cells_end, cells_more, cells_tail, tail, expression_tail_inside, pattern_tail_inside, tail_first, variables, pattern', pattern_inside, pattern_inside_variable, alias_name, no_alias, equals, clause, clauses_none, clauses_some, definitions, module_end, Holds, on, of_variable, expressions_of, all_expressions, patterns_of, all_patterns, constants_of, all_constants, variables_of, all_variables, exports_of, all_exports, attributes_of, all_attributes, expression_list, found_expression, pattern_list, found_pattern, constant_list, found_constant, annotation_list_of, annotation_of, held_annotation, arguments_of, HeldArguments, held_arguments}
-
--- words and signs by their codes
-
-marks : List Mark
-marks = Mark.After ∷ Mark.Apply ∷ Mark.Attributes ∷ Mark.Call ∷ Mark.Case ∷ Mark.Catch ∷ Mark.Do ∷ Mark.End ∷ Mark.Fun ∷ Mark.In ∷ Mark.Let ∷ Mark.Letrec ∷ Mark.Module ∷ Mark.Of ∷ Mark.Primop ∷ Mark.Receive ∷ Mark.Timeout ∷ Mark.Try ∷ Mark.When ∷ Mark.OpenRound ∷ Mark.CloseRound ∷ Mark.OpenBrace ∷ Mark.CloseBrace ∷ Mark.OpenSquare ∷ Mark.CloseSquare ∷ Mark.Less ∷ Mark.Greater ∷ Mark.Comma ∷ Mark.Equals ∷ Mark.Slash ∷ Mark.Colon ∷ Mark.Bar ∷ Mark.Hash ∷ Mark.Tilde ∷ Mark.Arrow ∷ Mark.Dash ∷ []
-
-decoded : (m : Mark) → get_or marks (code m) Mark.After ≡ m
-unfolding marks
-decoded Mark.After = refl
-decoded Mark.Apply = refl
-decoded Mark.Attributes = refl
-decoded Mark.Call = refl
-decoded Mark.Case = refl
-decoded Mark.Catch = refl
-decoded Mark.Do = refl
-decoded Mark.End = refl
-decoded Mark.Fun = refl
-decoded Mark.In = refl
-decoded Mark.Let = refl
-decoded Mark.Letrec = refl
-decoded Mark.Module = refl
-decoded Mark.Of = refl
-decoded Mark.Primop = refl
-decoded Mark.Receive = refl
-decoded Mark.Timeout = refl
-decoded Mark.Try = refl
-decoded Mark.When = refl
-decoded Mark.OpenRound = refl
-decoded Mark.CloseRound = refl
-decoded Mark.OpenBrace = refl
-decoded Mark.CloseBrace = refl
-decoded Mark.OpenSquare = refl
-decoded Mark.CloseSquare = refl
-decoded Mark.Less = refl
-decoded Mark.Greater = refl
-decoded Mark.Comma = refl
-decoded Mark.Equals = refl
-decoded Mark.Slash = refl
-decoded Mark.Colon = refl
-decoded Mark.Bar = refl
-decoded Mark.Hash = refl
-decoded Mark.Tilde = refl
-decoded Mark.Arrow = refl
-decoded Mark.Dash = refl
-
-pub one_code : (m n : Mark) → code m ≡ code n → m ≡ n
-one_code m n h = sym (decoded m) ∙ ap (λ k. get_or marks k Mark.After) h ∙ decoded n
 
 -- what closes is what closes
 closes_is : (c : Closer) (t : Kind) → closes c t ≡ true → t ≡ Kind.Mark (closing c)
@@ -84,11 +37,11 @@ closes_is Closer.Angle _ h = cc
 module _ (ok : Leave) where
   -- where a move leads, X held before
   abbrev pub Backs : Move → Terminal → List Terminal → Type 0 → Type 0
-  Backs (No integer) t ts X = Unit {0}
+  Backs (No wanted) t ts X = Unit {0}
   Backs (Go ss vs needs) t ts X = all_ok ok needs (t ∷ ts) ≡ true → Holds ok ss ts → X
 
   pub widen : {X Y : Type 0} (m : Move) (t : Terminal) (ts : List Terminal) → (X → Y) → Backs m t ts X → Backs m t ts Y
-  widen (No integer) t ts f b = tt
+  widen (No wanted) t ts f b = tt
   widen (Go ss vs needs) t ts f b = λ o h. f (b o h)
 
   pub alone : (b : Bool) → (b && true) ≡ true → b ≡ true

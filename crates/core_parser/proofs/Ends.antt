@@ -14,6 +14,8 @@ use Rattle.core_grammar.specs.declared.terminal.Terminal.{Terminal}
 use Rattle.core_grammar.specs.Trees.{constant_of, fun_at, variable_at, pattern_at, expression_at, name_of, clause_at}
 use Rattle.core_grammar.specs.Leave.{part, argument, Leave, token, mark}
 use Rattle.core_grammar.specs.Grammar as G
+use Rattle.core_grammar.specs.Marks.{same_mark}
+use Rattle.core_parser.specs.declared.moved.Wanted.{Wanted}
 use Rattle.core_parser.specs.declared.symbol.Closer.{Closer}
 use Rattle.core_parser.specs.declared.symbol.Element.{Element}
 use Rattle.core_parser.specs.declared.symbol.Maker.{Maker}
@@ -21,7 +23,7 @@ use Rattle.core_parser.specs.declared.symbol.Part.{Part}
 use Rattle.core_parser.specs.declared.symbol.Symbol.{Symbol}
 use Rattle.core_parser.specs.declared.symbol.Term.{Term}
 use Rattle.core_parser.specs.Values.{Values, literal, variable_pattern, made}
-use Rattle.core_parser.specs.Machine.{Symbols, Move, Go, No, goes, has_operand, move, closes, code, deeper}
+use Rattle.core_parser.specs.Machine.{Symbols, Move, Go, No, wanted_by, has_operand, move, closes, deeper}
 use Rattle.core_parser.specs.Machine as M
 use Rattle.core_parser.proofs.Steps.{closing}
 use Rattle.core_parser.proofs.Meaning.{Sat, wants, make, bare_module, bare_name, bare_atom, bare_operand, bare_variable, bare_constant, bare_fun, bare_expression, module', name, atom, operand, variable, constant, fun, expression, no_arity, arity, item_variable, item_export, item_attribute, item_expression, item_pattern, item_constant, first_none, rest_none, cells_none, cells_end, tail, expression_tail_inside, pattern_tail_inside, tail_first, variables, pattern', pattern_inside, pattern_inside_variable, alias_name, no_alias, clause, clause_inside, clause_inside_variable, clause_twice_inside, clause_twice_inside_variable, clause_twice_inside_annotated, clause_middle, clauses_none, definitions, module_end, arguments_first, argument', arguments_none, Holds, done, on, of_variable}
@@ -41,7 +43,7 @@ foreign_kind receive = Kind.Mark Mark.Receive
 foreign_kind hash = Kind.Mark Mark.Hash
 foreign_kind tilde = Kind.Mark Mark.Tilde
 
-bare_stops : (x : Part) (u : Foreign) (ss : Symbols) (vs : Values) (p : Place) → M.bare x (foreign_kind u) p ss vs ≡ No (goes (M.bare x (Kind.Natural 0) p ss vs))
+bare_stops : (x : Part) (u : Foreign) (ss : Symbols) (vs : Values) (p : Place) → M.bare x (foreign_kind u) p ss vs ≡ No (wanted_by (M.bare x (Kind.Natural 0) p ss vs))
 bare_stops Part.Module float ss vs p = refl
 bare_stops Part.Module _ ss vs p = refl
 bare_stops Part.Name float ss vs p = refl
@@ -59,13 +61,13 @@ bare_stops (Part.Fun k) _ ss vs p = refl
 bare_stops (Part.Expression k) float ss vs p = refl
 bare_stops (Part.Expression k) _ ss vs p = refl
 
-annotated_stops : (x : Part) (u : Foreign) (ss : Symbols) (vs : Values) (p : Place) → M.annotated x (foreign_kind u) p ss vs ≡ No (goes (M.annotated x (Kind.Natural 0) p ss vs))
+annotated_stops : (x : Part) (u : Foreign) (ss : Symbols) (vs : Values) (p : Place) → M.annotated x (foreign_kind u) p ss vs ≡ No (wanted_by (M.annotated x (Kind.Natural 0) p ss vs))
 annotated_stops x float ss vs p = bare_stops x float ss vs p
 annotated_stops x receive ss vs p = bare_stops x receive ss vs p
 annotated_stops x hash ss vs p = bare_stops x hash ss vs p
 annotated_stops x tilde ss vs p = bare_stops x tilde ss vs p
 
-term_stops : (x : Term) (u : Foreign) (ss : Symbols) (vs : Values) (p : Place) → M.term x (foreign_kind u) p ss vs ≡ No (goes (M.term x (Kind.Natural 0) p ss vs))
+term_stops : (x : Term) (u : Foreign) (ss : Symbols) (vs : Values) (p : Place) → M.term x (foreign_kind u) p ss vs ≡ No (wanted_by (M.term x (Kind.Natural 0) p ss vs))
 term_stops (Term.Expression k) float ss vs p = refl
 term_stops (Term.Expression k) _ ss vs p = refl
 term_stops (Term.Pattern k) float ss vs p = refl
@@ -73,7 +75,7 @@ term_stops (Term.Pattern k) _ ss vs p = refl
 term_stops (Term.Constant k) float ss vs p = refl
 term_stops (Term.Constant k) _ ss vs p = refl
 
-item_stops : (x : Element) (u : Foreign) (ss : Symbols) (vs : Values) (p : Place) → M.item x (foreign_kind u) p ss vs ≡ No (goes (M.item x (Kind.Natural 0) p ss vs))
+item_stops : (x : Element) (u : Foreign) (ss : Symbols) (vs : Values) (p : Place) → M.item x (foreign_kind u) p ss vs ≡ No (wanted_by (M.item x (Kind.Natural 0) p ss vs))
 item_stops Element.Variable float ss vs p = refl
 item_stops Element.Variable _ ss vs p = refl
 item_stops Element.Export float ss vs p = refl
@@ -98,32 +100,32 @@ integer_closes_none Closer.Brace = refl
 integer_closes_none Closer.Square = refl
 integer_closes_none Closer.Angle = refl
 
-choice_stops : {a b : Bool} (x y : Move) (f g : Move) → a ≡ false → b ≡ false → f ≡ No (goes g) → (if a then x else f) ≡ No (goes (if b then y else g))
-choice_stops x y f g is_a is_b h = ap (λ a. if a then x else f) is_a ∙ h ∙ sym (ap (λ b. No (goes (if b then y else g))) is_b)
+choice_stops : {a b : Bool} (x y : Move) (f g : Move) → a ≡ false → b ≡ false → f ≡ No (wanted_by g) → (if a then x else f) ≡ No (wanted_by (if b then y else g))
+choice_stops x y f g is_a is_b h = ap (λ a. if a then x else f) is_a ∙ h ∙ sym (ap (λ b. No (wanted_by (if b then y else g))) is_b)
 
-first_stops : (x : Element) (c : Closer) (u : Foreign) (ss : Symbols) (vs : Values) (p : Place) → M.first x c (foreign_kind u) p ss vs ≡ No (goes (M.first x c (Kind.Natural 0) p ss vs))
+first_stops : (x : Element) (c : Closer) (u : Foreign) (ss : Symbols) (vs : Values) (p : Place) → M.first x c (foreign_kind u) p ss vs ≡ No (wanted_by (M.first x c (Kind.Natural 0) p ss vs))
 first_stops x c u ss vs p = choice_stops (Go ss vs []) (Go ss vs []) _ _ (foreign_closes_none c u) (integer_closes_none c) (item_stops x u (Symbol.Make (Maker.Push x) ∷ Symbol.Rest x c ∷ ss) vs p)
 
-comma_stops : (x : Element) (c : Closer) (u : Foreign) (ss : Symbols) (vs : Values) → M.comma x c (foreign_kind u) ss vs ≡ No false
+comma_stops : (x : Element) (c : Closer) (u : Foreign) (ss : Symbols) (vs : Values) → M.comma x c (foreign_kind u) ss vs ≡ No Wanted.Other
 comma_stops x c float ss vs = refl
 comma_stops x c _ ss vs = refl
 
-rest_stops : (x : Element) (c : Closer) (u : Foreign) (ss : Symbols) (vs : Values) → M.rest x c (foreign_kind u) ss vs ≡ No (goes (M.rest x c (Kind.Natural 0) ss vs))
-rest_stops x c u ss vs = choice_stops (Go ss vs []) (Go ss vs []) _ (No false) (foreign_closes_none c u) (integer_closes_none c) (comma_stops x c u ss vs)
+rest_stops : (x : Element) (c : Closer) (u : Foreign) (ss : Symbols) (vs : Values) → M.rest x c (foreign_kind u) ss vs ≡ No (wanted_by (M.rest x c (Kind.Natural 0) ss vs))
+rest_stops x c u ss vs = choice_stops (Go ss vs []) (Go ss vs []) _ (No Wanted.Other) (foreign_closes_none c u) (integer_closes_none c) (comma_stops x c u ss vs)
 
-cells_first_stops : (x : Term) (u : Foreign) (ss : Symbols) (vs : Values) (p : Place) → M.cells_first x (foreign_kind u) p ss vs ≡ No (goes (M.cells_first x (Kind.Natural 0) p ss vs))
+cells_first_stops : (x : Term) (u : Foreign) (ss : Symbols) (vs : Values) (p : Place) → M.cells_first x (foreign_kind u) p ss vs ≡ No (wanted_by (M.cells_first x (Kind.Natural 0) p ss vs))
 cells_first_stops x float ss vs p = term_stops (deeper x) float (Symbol.Make (Maker.Push (Element.Term (deeper x))) ∷ Symbol.CellsRest x ∷ ss) vs p
 cells_first_stops x receive ss vs p = term_stops (deeper x) receive (Symbol.Make (Maker.Push (Element.Term (deeper x))) ∷ Symbol.CellsRest x ∷ ss) vs p
 cells_first_stops x hash ss vs p = term_stops (deeper x) hash (Symbol.Make (Maker.Push (Element.Term (deeper x))) ∷ Symbol.CellsRest x ∷ ss) vs p
 cells_first_stops x tilde ss vs p = term_stops (deeper x) tilde (Symbol.Make (Maker.Push (Element.Term (deeper x))) ∷ Symbol.CellsRest x ∷ ss) vs p
 
-tail_first_stops : (x : Term) (u : Foreign) (ss : Symbols) (vs : Values) (p : Place) → M.tail_first x (foreign_kind u) p ss vs ≡ No (goes (M.tail_first x (Kind.Natural 0) p ss vs))
+tail_first_stops : (x : Term) (u : Foreign) (ss : Symbols) (vs : Values) (p : Place) → M.tail_first x (foreign_kind u) p ss vs ≡ No (wanted_by (M.tail_first x (Kind.Natural 0) p ss vs))
 tail_first_stops x float ss vs p = term_stops (deeper x) float (Symbol.Make (Maker.Push (Element.Term (deeper x))) ∷ Symbol.CellsRest x ∷ ss) vs p
 tail_first_stops x receive ss vs p = term_stops (deeper x) receive (Symbol.Make (Maker.Push (Element.Term (deeper x))) ∷ Symbol.CellsRest x ∷ ss) vs p
 tail_first_stops x hash ss vs p = term_stops (deeper x) hash (Symbol.Make (Maker.Push (Element.Term (deeper x))) ∷ Symbol.CellsRest x ∷ ss) vs p
 tail_first_stops x tilde ss vs p = term_stops (deeper x) tilde (Symbol.Make (Maker.Push (Element.Term (deeper x))) ∷ Symbol.CellsRest x ∷ ss) vs p
 
-tail_stops : (x : Term) (u : Foreign) (ss : Symbols) (vs : Values) (p : Place) → M.tail x (foreign_kind u) p ss vs ≡ No (goes (M.tail x (Kind.Natural 0) p ss vs))
+tail_stops : (x : Term) (u : Foreign) (ss : Symbols) (vs : Values) (p : Place) → M.tail x (foreign_kind u) p ss vs ≡ No (wanted_by (M.tail x (Kind.Natural 0) p ss vs))
 tail_stops (Term.Expression k) float ss vs p = refl
 tail_stops (Term.Expression k) _ ss vs p = refl
 tail_stops (Term.Pattern k) float ss vs p = refl
@@ -132,25 +134,25 @@ tail_stops (Term.Constant k) float ss vs p = refl
 tail_stops (Term.Constant k) _ ss vs p = refl
 
 -- a symbol that takes a foreign terminal doesn't stop there
-wants_stops : (m : Mark) (u : Foreign) (ss : Symbols) (vs : Values) (integer : Bool) → M.wants m (foreign_kind u) ss vs ≡ No integer → false ≡ integer
-wants_stops m float ss vs integer h = cc
-wants_stops m receive ss vs integer h = tested (code m == code Mark.Receive) h
+wants_stops : (m : Mark) (u : Foreign) (ss : Symbols) (vs : Values) (wanted : Wanted) → M.wants m (foreign_kind u) ss vs ≡ No wanted → Wanted.Other ≡ wanted
+wants_stops m float ss vs wanted h = cc
+wants_stops m receive ss vs wanted h = tested (same_mark m Mark.Receive) h
   where
-    tested : (b : Bool) → (if b then Go ss vs [] else No false) ≡ No integer → false ≡ integer
+    tested : (b : Bool) → (if b then Go ss vs [] else No Wanted.Other) ≡ No wanted → Wanted.Other ≡ wanted
     tested true h = cc
     tested false h = cc
-wants_stops m hash ss vs integer h = tested (code m == code Mark.Hash) h
+wants_stops m hash ss vs wanted h = tested (same_mark m Mark.Hash) h
   where
-    tested : (b : Bool) → (if b then Go ss vs [] else No false) ≡ No integer → false ≡ integer
+    tested : (b : Bool) → (if b then Go ss vs [] else No Wanted.Other) ≡ No wanted → Wanted.Other ≡ wanted
     tested true h = cc
     tested false h = cc
-wants_stops m tilde ss vs integer h = tested (code m == code Mark.Tilde) h
+wants_stops m tilde ss vs wanted h = tested (same_mark m Mark.Tilde) h
   where
-    tested : (b : Bool) → (if b then Go ss vs [] else No false) ≡ No integer → false ≡ integer
+    tested : (b : Bool) → (if b then Go ss vs [] else No Wanted.Other) ≡ No wanted → Wanted.Other ≡ wanted
     tested true h = cc
     tested false h = cc
 
-says : {a b : Bool} {m : Move} → m ≡ No a → m ≡ No b → a ≡ b
+says : {a b : Wanted} {m : Move} → m ≡ No a → m ≡ No b → a ≡ b
 says h g = let e : No _ ≡ No _ = sym h ∙ g in cc
 
 atom_skips : (u : Foreign) (ss : Symbols) (vs : Values) (m : Move) → M.after_atom (foreign_kind u) ss vs m ≡ m
@@ -167,132 +169,132 @@ definitions_skip k _ p ss vs m = refl
 
 -- one symbol, which isn't optional and wants no word or sign
 
-arity_stops : (u : Foreign) (ss : Symbols) (vs : Values) (p : Place) → move (Symbol.Arity ∷ ss) vs (foreign_kind u) p ≡ No (goes (move (Symbol.Arity ∷ ss) vs (Kind.Natural 0) p))
+arity_stops : (u : Foreign) (ss : Symbols) (vs : Values) (p : Place) → move (Symbol.Arity ∷ ss) vs (foreign_kind u) p ≡ No (wanted_by (move (Symbol.Arity ∷ ss) vs (Kind.Natural 0) p))
 arity_stops float ss vs p = refl
 arity_stops _ ss vs p = refl
 
-cells_rest_stops : (x : Term) (u : Foreign) (ss : Symbols) (vs : Values) (p : Place) → move (Symbol.CellsRest x ∷ ss) vs (foreign_kind u) p ≡ No (goes (move (Symbol.CellsRest x ∷ ss) vs (Kind.Natural 0) p))
+cells_rest_stops : (x : Term) (u : Foreign) (ss : Symbols) (vs : Values) (p : Place) → move (Symbol.CellsRest x ∷ ss) vs (foreign_kind u) p ≡ No (wanted_by (move (Symbol.CellsRest x ∷ ss) vs (Kind.Natural 0) p))
 cells_rest_stops x float ss vs p = refl
 cells_rest_stops x _ ss vs p = refl
 
-expression_tail_inside_stops : (k : ℕ) (u : Foreign) (ss : Symbols) (vs : Values) (p : Place) → move (Symbol.ExpressionTailInside k ∷ ss) vs (foreign_kind u) p ≡ No (goes (move (Symbol.ExpressionTailInside k ∷ ss) vs (Kind.Natural 0) p))
+expression_tail_inside_stops : (k : ℕ) (u : Foreign) (ss : Symbols) (vs : Values) (p : Place) → move (Symbol.ExpressionTailInside k ∷ ss) vs (foreign_kind u) p ≡ No (wanted_by (move (Symbol.ExpressionTailInside k ∷ ss) vs (Kind.Natural 0) p))
 expression_tail_inside_stops k float ss vs p = refl
 expression_tail_inside_stops k _ ss vs p = refl
 
-pattern_tail_inside_stops : (k : ℕ) (u : Foreign) (ss : Symbols) (vs : Values) (p : Place) → move (Symbol.PatternTailInside k ∷ ss) vs (foreign_kind u) p ≡ No (goes (move (Symbol.PatternTailInside k ∷ ss) vs (Kind.Natural 0) p))
+pattern_tail_inside_stops : (k : ℕ) (u : Foreign) (ss : Symbols) (vs : Values) (p : Place) → move (Symbol.PatternTailInside k ∷ ss) vs (foreign_kind u) p ≡ No (wanted_by (move (Symbol.PatternTailInside k ∷ ss) vs (Kind.Natural 0) p))
 pattern_tail_inside_stops k float ss vs p = refl
 pattern_tail_inside_stops k _ ss vs p = refl
 
-variables_stops : (u : Foreign) (ss : Symbols) (vs : Values) (p : Place) → move (Symbol.Variables ∷ ss) vs (foreign_kind u) p ≡ No (goes (move (Symbol.Variables ∷ ss) vs (Kind.Natural 0) p))
+variables_stops : (u : Foreign) (ss : Symbols) (vs : Values) (p : Place) → move (Symbol.Variables ∷ ss) vs (foreign_kind u) p ≡ No (wanted_by (move (Symbol.Variables ∷ ss) vs (Kind.Natural 0) p))
 variables_stops float ss vs p = refl
 variables_stops _ ss vs p = refl
 
-pattern_stops : (k : ℕ) (u : Foreign) (ss : Symbols) (vs : Values) (p : Place) → move (Symbol.Pattern k ∷ ss) vs (foreign_kind u) p ≡ No (goes (move (Symbol.Pattern k ∷ ss) vs (Kind.Natural 0) p))
+pattern_stops : (k : ℕ) (u : Foreign) (ss : Symbols) (vs : Values) (p : Place) → move (Symbol.Pattern k ∷ ss) vs (foreign_kind u) p ≡ No (wanted_by (move (Symbol.Pattern k ∷ ss) vs (Kind.Natural 0) p))
 pattern_stops k float ss vs p = refl
 pattern_stops k _ ss vs p = refl
 
-pattern_inside_stops : (k : ℕ) (u : Foreign) (ss : Symbols) (vs : Values) (p : Place) → move (Symbol.PatternInside k ∷ ss) vs (foreign_kind u) p ≡ No (goes (move (Symbol.PatternInside k ∷ ss) vs (Kind.Natural 0) p))
+pattern_inside_stops : (k : ℕ) (u : Foreign) (ss : Symbols) (vs : Values) (p : Place) → move (Symbol.PatternInside k ∷ ss) vs (foreign_kind u) p ≡ No (wanted_by (move (Symbol.PatternInside k ∷ ss) vs (Kind.Natural 0) p))
 pattern_inside_stops k float ss vs p = refl
 pattern_inside_stops k _ ss vs p = refl
 
-pattern_inside_variable_stops : (k : ℕ) (u : Foreign) (ss : Symbols) (vs : Values) (p : Place) → move (Symbol.PatternInsideVariable k ∷ ss) vs (foreign_kind u) p ≡ No (goes (move (Symbol.PatternInsideVariable k ∷ ss) vs (Kind.Natural 0) p))
+pattern_inside_variable_stops : (k : ℕ) (u : Foreign) (ss : Symbols) (vs : Values) (p : Place) → move (Symbol.PatternInsideVariable k ∷ ss) vs (foreign_kind u) p ≡ No (wanted_by (move (Symbol.PatternInsideVariable k ∷ ss) vs (Kind.Natural 0) p))
 pattern_inside_variable_stops k float ss vs p = refl
 pattern_inside_variable_stops k _ ss vs p = refl
 
-alias_name_stops : (k : ℕ) (u : Foreign) (ss : Symbols) (vs : Values) (p : Place) → move (Symbol.AliasName k ∷ ss) vs (foreign_kind u) p ≡ No (goes (move (Symbol.AliasName k ∷ ss) vs (Kind.Natural 0) p))
+alias_name_stops : (k : ℕ) (u : Foreign) (ss : Symbols) (vs : Values) (p : Place) → move (Symbol.AliasName k ∷ ss) vs (foreign_kind u) p ≡ No (wanted_by (move (Symbol.AliasName k ∷ ss) vs (Kind.Natural 0) p))
 alias_name_stops k float ss vs p = refl
 alias_name_stops k _ ss vs p = refl
 
-clause_stops : (k : ℕ) (u : Foreign) (ss : Symbols) (vs : Values) (p : Place) → move (Symbol.Clause k ∷ ss) vs (foreign_kind u) p ≡ No (goes (move (Symbol.Clause k ∷ ss) vs (Kind.Natural 0) p))
+clause_stops : (k : ℕ) (u : Foreign) (ss : Symbols) (vs : Values) (p : Place) → move (Symbol.Clause k ∷ ss) vs (foreign_kind u) p ≡ No (wanted_by (move (Symbol.Clause k ∷ ss) vs (Kind.Natural 0) p))
 clause_stops k float ss vs p = refl
 clause_stops k _ ss vs p = refl
 
-clause_inside_stops : (k : ℕ) (u : Foreign) (ss : Symbols) (vs : Values) (p : Place) → move (Symbol.ClauseInside k ∷ ss) vs (foreign_kind u) p ≡ No (goes (move (Symbol.ClauseInside k ∷ ss) vs (Kind.Natural 0) p))
+clause_inside_stops : (k : ℕ) (u : Foreign) (ss : Symbols) (vs : Values) (p : Place) → move (Symbol.ClauseInside k ∷ ss) vs (foreign_kind u) p ≡ No (wanted_by (move (Symbol.ClauseInside k ∷ ss) vs (Kind.Natural 0) p))
 clause_inside_stops k float ss vs p = refl
 clause_inside_stops k _ ss vs p = refl
 
-clause_inside_variable_stops : (k : ℕ) (u : Foreign) (ss : Symbols) (vs : Values) (p : Place) → move (Symbol.ClauseInsideVariable k ∷ ss) vs (foreign_kind u) p ≡ No (goes (move (Symbol.ClauseInsideVariable k ∷ ss) vs (Kind.Natural 0) p))
+clause_inside_variable_stops : (k : ℕ) (u : Foreign) (ss : Symbols) (vs : Values) (p : Place) → move (Symbol.ClauseInsideVariable k ∷ ss) vs (foreign_kind u) p ≡ No (wanted_by (move (Symbol.ClauseInsideVariable k ∷ ss) vs (Kind.Natural 0) p))
 clause_inside_variable_stops k float ss vs p = refl
 clause_inside_variable_stops k _ ss vs p = refl
 
-clause_twice_inside_stops : (k : ℕ) (u : Foreign) (ss : Symbols) (vs : Values) (p : Place) → move (Symbol.ClauseTwiceInside k ∷ ss) vs (foreign_kind u) p ≡ No (goes (move (Symbol.ClauseTwiceInside k ∷ ss) vs (Kind.Natural 0) p))
+clause_twice_inside_stops : (k : ℕ) (u : Foreign) (ss : Symbols) (vs : Values) (p : Place) → move (Symbol.ClauseTwiceInside k ∷ ss) vs (foreign_kind u) p ≡ No (wanted_by (move (Symbol.ClauseTwiceInside k ∷ ss) vs (Kind.Natural 0) p))
 clause_twice_inside_stops k float ss vs p = refl
 clause_twice_inside_stops k _ ss vs p = refl
 
-clause_twice_inside_variable_stops : (k : ℕ) (u : Foreign) (ss : Symbols) (vs : Values) (p : Place) → move (Symbol.ClauseTwiceInsideVariable k ∷ ss) vs (foreign_kind u) p ≡ No (goes (move (Symbol.ClauseTwiceInsideVariable k ∷ ss) vs (Kind.Natural 0) p))
+clause_twice_inside_variable_stops : (k : ℕ) (u : Foreign) (ss : Symbols) (vs : Values) (p : Place) → move (Symbol.ClauseTwiceInsideVariable k ∷ ss) vs (foreign_kind u) p ≡ No (wanted_by (move (Symbol.ClauseTwiceInsideVariable k ∷ ss) vs (Kind.Natural 0) p))
 clause_twice_inside_variable_stops k float ss vs p = refl
 clause_twice_inside_variable_stops k _ ss vs p = refl
 
-clause_twice_inside_annotated_stops : (k : ℕ) (u : Foreign) (ss : Symbols) (vs : Values) (p : Place) → move (Symbol.ClauseTwiceInsideAnnotated k ∷ ss) vs (foreign_kind u) p ≡ No (goes (move (Symbol.ClauseTwiceInsideAnnotated k ∷ ss) vs (Kind.Natural 0) p))
+clause_twice_inside_annotated_stops : (k : ℕ) (u : Foreign) (ss : Symbols) (vs : Values) (p : Place) → move (Symbol.ClauseTwiceInsideAnnotated k ∷ ss) vs (foreign_kind u) p ≡ No (wanted_by (move (Symbol.ClauseTwiceInsideAnnotated k ∷ ss) vs (Kind.Natural 0) p))
 clause_twice_inside_annotated_stops k float ss vs p = refl
 clause_twice_inside_annotated_stops k _ ss vs p = refl
 
-clause_middle_stops : (k : ℕ) (u : Foreign) (ss : Symbols) (vs : Values) (p : Place) → move (Symbol.ClauseMiddle k ∷ ss) vs (foreign_kind u) p ≡ No (goes (move (Symbol.ClauseMiddle k ∷ ss) vs (Kind.Natural 0) p))
+clause_middle_stops : (k : ℕ) (u : Foreign) (ss : Symbols) (vs : Values) (p : Place) → move (Symbol.ClauseMiddle k ∷ ss) vs (foreign_kind u) p ≡ No (wanted_by (move (Symbol.ClauseMiddle k ∷ ss) vs (Kind.Natural 0) p))
 clause_middle_stops k float ss vs p = refl
 clause_middle_stops k _ ss vs p = refl
 
-clauses_rest_stops : (k : ℕ) (u : Foreign) (ss : Symbols) (vs : Values) (p : Place) → move (Symbol.ClausesRest k ∷ ss) vs (foreign_kind u) p ≡ No (goes (move (Symbol.ClausesRest k ∷ ss) vs (Kind.Natural 0) p))
+clauses_rest_stops : (k : ℕ) (u : Foreign) (ss : Symbols) (vs : Values) (p : Place) → move (Symbol.ClausesRest k ∷ ss) vs (foreign_kind u) p ≡ No (wanted_by (move (Symbol.ClausesRest k ∷ ss) vs (Kind.Natural 0) p))
 clauses_rest_stops k float ss vs p = refl
 clauses_rest_stops k _ ss vs p = refl
 
-module_end_stops : (u : Foreign) (ss : Symbols) (vs : Values) (p : Place) → move (Symbol.ModuleEnd ∷ ss) vs (foreign_kind u) p ≡ No (goes (move (Symbol.ModuleEnd ∷ ss) vs (Kind.Natural 0) p))
+module_end_stops : (u : Foreign) (ss : Symbols) (vs : Values) (p : Place) → move (Symbol.ModuleEnd ∷ ss) vs (foreign_kind u) p ≡ No (wanted_by (move (Symbol.ModuleEnd ∷ ss) vs (Kind.Natural 0) p))
 module_end_stops float ss vs p = refl
 module_end_stops _ ss vs p = refl
 
-arguments_first_stops : (u : Foreign) (ss : Symbols) (vs : Values) (p : Place) → move (Symbol.ArgumentsFirst ∷ ss) vs (foreign_kind u) p ≡ No (goes (move (Symbol.ArgumentsFirst ∷ ss) vs (Kind.Natural 0) p))
+arguments_first_stops : (u : Foreign) (ss : Symbols) (vs : Values) (p : Place) → move (Symbol.ArgumentsFirst ∷ ss) vs (foreign_kind u) p ≡ No (wanted_by (move (Symbol.ArgumentsFirst ∷ ss) vs (Kind.Natural 0) p))
 arguments_first_stops float ss vs p = refl
 arguments_first_stops _ ss vs p = refl
 
-argument_stops : (i : ℕ) (u : Foreign) (ss : Symbols) (vs : Values) (p : Place) → move (Symbol.Argument i ∷ ss) vs (foreign_kind u) p ≡ No (goes (move (Symbol.Argument i ∷ ss) vs (Kind.Natural 0) p))
+argument_stops : (i : ℕ) (u : Foreign) (ss : Symbols) (vs : Values) (p : Place) → move (Symbol.Argument i ∷ ss) vs (foreign_kind u) p ≡ No (wanted_by (move (Symbol.Argument i ∷ ss) vs (Kind.Natural 0) p))
 argument_stops i float ss vs p = refl
 argument_stops i _ ss vs p = refl
 
-arguments_rest_stops : (i : ℕ) (u : Foreign) (ss : Symbols) (vs : Values) (p : Place) → move (Symbol.ArgumentsRest i ∷ ss) vs (foreign_kind u) p ≡ No (goes (move (Symbol.ArgumentsRest i ∷ ss) vs (Kind.Natural 0) p))
+arguments_rest_stops : (i : ℕ) (u : Foreign) (ss : Symbols) (vs : Values) (p : Place) → move (Symbol.ArgumentsRest i ∷ ss) vs (foreign_kind u) p ≡ No (wanted_by (move (Symbol.ArgumentsRest i ∷ ss) vs (Kind.Natural 0) p))
 arguments_rest_stops i float ss vs p = refl
 arguments_rest_stops i _ ss vs p = refl
 
 -- where a foreign terminal has no move, an integer has one or none
-pub foreign_stops : (u : Foreign) (ss : Symbols) (vs : Values) (p : Place) (integer : Bool) → move ss vs (foreign_kind u) p ≡ No integer → goes (move ss vs (Kind.Natural 0) p) ≡ integer
-foreign_stops u [] vs p integer h = says refl h
-foreign_stops u (Symbol.Wants m ∷ ss) vs p integer h = wants_stops m u ss vs integer h
-foreign_stops u (Symbol.Annotated x ∷ ss) vs p integer h = says (annotated_stops x u ss vs p) h
-foreign_stops u (Symbol.Bare x ∷ ss) vs p integer h = says (bare_stops x u ss vs p) h
-foreign_stops u (Symbol.AfterAtom ∷ ss) vs p integer h = foreign_stops u ss (literal vs) p integer (sym (atom_skips u ss vs _) ∙ h)
-foreign_stops u (Symbol.Item x ∷ ss) vs p integer h = says (item_stops x u ss vs p) h
-foreign_stops u (Symbol.First x c ∷ ss) vs p integer h = says (first_stops x c u ss vs p) h
-foreign_stops u (Symbol.Rest x c ∷ ss) vs p integer h = says (rest_stops x c u ss vs) h
-foreign_stops u (Symbol.CellsFirst x ∷ ss) vs p integer h = says (cells_first_stops x u ss vs p) h
-foreign_stops u (Symbol.TailFirst x ∷ ss) vs p integer h = says (tail_first_stops x u ss vs p) h
-foreign_stops u (Symbol.Tail x ∷ ss) vs p integer h = says (tail_stops x u ss vs p) h
-foreign_stops u (Symbol.AfterVariable k ∷ ss) vs p integer h = foreign_stops u ss (variable_pattern vs) p integer (sym (variable_skips k u ss vs _) ∙ h)
-foreign_stops u (Symbol.Definitions k ∷ ss) vs p integer h = foreign_stops u ss vs p integer (sym (definitions_skip k u p ss vs _) ∙ h)
-foreign_stops u (Symbol.Make maker ∷ ss) vs p integer h = foreign_stops u ss (made maker vs) p integer h
-foreign_stops u (Symbol.Arity ∷ ss) vs p integer h = says (arity_stops u ss vs p) h
-foreign_stops u (Symbol.CellsRest x ∷ ss) vs p integer h = says (cells_rest_stops x u ss vs p) h
-foreign_stops u (Symbol.ExpressionTailInside k ∷ ss) vs p integer h = says (expression_tail_inside_stops k u ss vs p) h
-foreign_stops u (Symbol.PatternTailInside k ∷ ss) vs p integer h = says (pattern_tail_inside_stops k u ss vs p) h
-foreign_stops u (Symbol.Variables ∷ ss) vs p integer h = says (variables_stops u ss vs p) h
-foreign_stops u (Symbol.Pattern k ∷ ss) vs p integer h = says (pattern_stops k u ss vs p) h
-foreign_stops u (Symbol.PatternInside k ∷ ss) vs p integer h = says (pattern_inside_stops k u ss vs p) h
-foreign_stops u (Symbol.PatternInsideVariable k ∷ ss) vs p integer h = says (pattern_inside_variable_stops k u ss vs p) h
-foreign_stops u (Symbol.AliasName k ∷ ss) vs p integer h = says (alias_name_stops k u ss vs p) h
-foreign_stops u (Symbol.Clause k ∷ ss) vs p integer h = says (clause_stops k u ss vs p) h
-foreign_stops u (Symbol.ClauseInside k ∷ ss) vs p integer h = says (clause_inside_stops k u ss vs p) h
-foreign_stops u (Symbol.ClauseInsideVariable k ∷ ss) vs p integer h = says (clause_inside_variable_stops k u ss vs p) h
-foreign_stops u (Symbol.ClauseTwiceInside k ∷ ss) vs p integer h = says (clause_twice_inside_stops k u ss vs p) h
-foreign_stops u (Symbol.ClauseTwiceInsideVariable k ∷ ss) vs p integer h = says (clause_twice_inside_variable_stops k u ss vs p) h
-foreign_stops u (Symbol.ClauseTwiceInsideAnnotated k ∷ ss) vs p integer h = says (clause_twice_inside_annotated_stops k u ss vs p) h
-foreign_stops u (Symbol.ClauseMiddle k ∷ ss) vs p integer h = says (clause_middle_stops k u ss vs p) h
-foreign_stops u (Symbol.ClausesRest k ∷ ss) vs p integer h = says (clauses_rest_stops k u ss vs p) h
-foreign_stops u (Symbol.ModuleEnd ∷ ss) vs p integer h = says (module_end_stops u ss vs p) h
-foreign_stops u (Symbol.ArgumentsFirst ∷ ss) vs p integer h = says (arguments_first_stops u ss vs p) h
-foreign_stops u (Symbol.Argument i ∷ ss) vs p integer h = says (argument_stops i u ss vs p) h
-foreign_stops u (Symbol.ArgumentsRest i ∷ ss) vs p integer h = says (arguments_rest_stops i u ss vs p) h
+pub foreign_stops : (u : Foreign) (ss : Symbols) (vs : Values) (p : Place) (wanted : Wanted) → move ss vs (foreign_kind u) p ≡ No wanted → wanted_by (move ss vs (Kind.Natural 0) p) ≡ wanted
+foreign_stops u [] vs p wanted h = says refl h
+foreign_stops u (Symbol.Wants m ∷ ss) vs p wanted h = wants_stops m u ss vs wanted h
+foreign_stops u (Symbol.Annotated x ∷ ss) vs p wanted h = says (annotated_stops x u ss vs p) h
+foreign_stops u (Symbol.Bare x ∷ ss) vs p wanted h = says (bare_stops x u ss vs p) h
+foreign_stops u (Symbol.AfterAtom ∷ ss) vs p wanted h = foreign_stops u ss (literal vs) p wanted (sym (atom_skips u ss vs _) ∙ h)
+foreign_stops u (Symbol.Item x ∷ ss) vs p wanted h = says (item_stops x u ss vs p) h
+foreign_stops u (Symbol.First x c ∷ ss) vs p wanted h = says (first_stops x c u ss vs p) h
+foreign_stops u (Symbol.Rest x c ∷ ss) vs p wanted h = says (rest_stops x c u ss vs) h
+foreign_stops u (Symbol.CellsFirst x ∷ ss) vs p wanted h = says (cells_first_stops x u ss vs p) h
+foreign_stops u (Symbol.TailFirst x ∷ ss) vs p wanted h = says (tail_first_stops x u ss vs p) h
+foreign_stops u (Symbol.Tail x ∷ ss) vs p wanted h = says (tail_stops x u ss vs p) h
+foreign_stops u (Symbol.AfterVariable k ∷ ss) vs p wanted h = foreign_stops u ss (variable_pattern vs) p wanted (sym (variable_skips k u ss vs _) ∙ h)
+foreign_stops u (Symbol.Definitions k ∷ ss) vs p wanted h = foreign_stops u ss vs p wanted (sym (definitions_skip k u p ss vs _) ∙ h)
+foreign_stops u (Symbol.Make maker ∷ ss) vs p wanted h = foreign_stops u ss (made maker vs) p wanted h
+foreign_stops u (Symbol.Arity ∷ ss) vs p wanted h = says (arity_stops u ss vs p) h
+foreign_stops u (Symbol.CellsRest x ∷ ss) vs p wanted h = says (cells_rest_stops x u ss vs p) h
+foreign_stops u (Symbol.ExpressionTailInside k ∷ ss) vs p wanted h = says (expression_tail_inside_stops k u ss vs p) h
+foreign_stops u (Symbol.PatternTailInside k ∷ ss) vs p wanted h = says (pattern_tail_inside_stops k u ss vs p) h
+foreign_stops u (Symbol.Variables ∷ ss) vs p wanted h = says (variables_stops u ss vs p) h
+foreign_stops u (Symbol.Pattern k ∷ ss) vs p wanted h = says (pattern_stops k u ss vs p) h
+foreign_stops u (Symbol.PatternInside k ∷ ss) vs p wanted h = says (pattern_inside_stops k u ss vs p) h
+foreign_stops u (Symbol.PatternInsideVariable k ∷ ss) vs p wanted h = says (pattern_inside_variable_stops k u ss vs p) h
+foreign_stops u (Symbol.AliasName k ∷ ss) vs p wanted h = says (alias_name_stops k u ss vs p) h
+foreign_stops u (Symbol.Clause k ∷ ss) vs p wanted h = says (clause_stops k u ss vs p) h
+foreign_stops u (Symbol.ClauseInside k ∷ ss) vs p wanted h = says (clause_inside_stops k u ss vs p) h
+foreign_stops u (Symbol.ClauseInsideVariable k ∷ ss) vs p wanted h = says (clause_inside_variable_stops k u ss vs p) h
+foreign_stops u (Symbol.ClauseTwiceInside k ∷ ss) vs p wanted h = says (clause_twice_inside_stops k u ss vs p) h
+foreign_stops u (Symbol.ClauseTwiceInsideVariable k ∷ ss) vs p wanted h = says (clause_twice_inside_variable_stops k u ss vs p) h
+foreign_stops u (Symbol.ClauseTwiceInsideAnnotated k ∷ ss) vs p wanted h = says (clause_twice_inside_annotated_stops k u ss vs p) h
+foreign_stops u (Symbol.ClauseMiddle k ∷ ss) vs p wanted h = says (clause_middle_stops k u ss vs p) h
+foreign_stops u (Symbol.ClausesRest k ∷ ss) vs p wanted h = says (clauses_rest_stops k u ss vs p) h
+foreign_stops u (Symbol.ModuleEnd ∷ ss) vs p wanted h = says (module_end_stops u ss vs p) h
+foreign_stops u (Symbol.ArgumentsFirst ∷ ss) vs p wanted h = says (arguments_first_stops u ss vs p) h
+foreign_stops u (Symbol.Argument i ∷ ss) vs p wanted h = says (argument_stops i u ss vs p) h
+foreign_stops u (Symbol.ArgumentsRest i ∷ ss) vs p wanted h = says (arguments_rest_stops i u ss vs p) h
 
 -- an integer is no operand of a `call`
 
 abbrev pub operand_free : Move → Bool
-operand_free (No integer) = true
+operand_free (No wanted) = true
 operand_free (Go ss vs needs) = not (has_operand needs)
 
 bare_is_free : (x : Part) (ss : Symbols) (vs : Values) (p : Place) → operand_free (M.bare x (Kind.Natural 0) p ss vs) ≡ true
@@ -331,7 +333,7 @@ integer_is_free (Symbol.Bare x ∷ ss) vs p = bare_is_free x ss vs p
 integer_is_free (Symbol.AfterAtom ∷ ss) vs p = integer_is_free ss (literal vs) p
 integer_is_free (Symbol.Item x ∷ ss) vs p = item_is_free x ss vs p
 integer_is_free (Symbol.First x c ∷ ss) vs p = choice_is_free (Go ss vs []) _ (integer_closes_none c) (item_is_free x (Symbol.Make (Maker.Push x) ∷ Symbol.Rest x c ∷ ss) vs p)
-integer_is_free (Symbol.Rest x c ∷ ss) vs p = choice_is_free (Go ss vs []) (No false) (integer_closes_none c) refl
+integer_is_free (Symbol.Rest x c ∷ ss) vs p = choice_is_free (Go ss vs []) (No Wanted.Other) (integer_closes_none c) refl
 integer_is_free (Symbol.CellsFirst x ∷ ss) vs p = term_is_free (deeper x) (Symbol.Make (Maker.Push (Element.Term (deeper x))) ∷ Symbol.CellsRest x ∷ ss) vs p
 integer_is_free (Symbol.TailFirst x ∷ ss) vs p = term_is_free (deeper x) (Symbol.Make (Maker.Push (Element.Term (deeper x))) ∷ Symbol.CellsRest x ∷ ss) vs p
 integer_is_free (Symbol.Tail x ∷ ss) vs p = other_tail_is_free x (Symbol.Make (Maker.Join x) ∷ ss) vs p

@@ -2,13 +2,14 @@
 use Rattle.std.proofs.Common.{◌≡◌, ℕ, ◌+◌, ◌<◌, List, [], ◌∷◌, ◌++◌, length, Bool, true, false, ◌&&◌, ◌||◌, nat_le, if◌then◌else◌, Result, Ok, Err, refl, ap, sym, ◌∙◌, subst, append-nil, arith}
 use Rattle.std.proofs.lemmas.Bool.Decides.{nat_tests}
 use Rattle.std.proofs.lemmas.List.{length-append}
+use Rattle.hipe_base.specs.declared.limits.TheConstants.{ARITY_LIMIT}
 use Rattle.hipe_terms.specs.declared.place.Place.{Place}
 use Rattle.hipe_terms.specs.declared.constant.Call.{Call}
 use Rattle.core_ast.specs.declared.tree.Module.{Module}
 use Rattle.core_grammar.specs.declared.fault.Fault.{Fault}
 use Rattle.core_grammar.specs.declared.terminal.Terminal.{Terminal}
 use Rattle.core_grammar.specs.Leave.{Need, part, variable_operand, argument}
-use Rattle.core_grammar.specs.Language.{argument_limit, Derives, DerivesCall, limit, any, within, Viable, Fine, FineCall, Stops, Refused, at_terminal, at_text_end, RefusedCall, call_at_terminal, call_at_text_end}
+use Rattle.core_grammar.specs.Language.{Derives, DerivesCall, limit, any, within, Viable, Fine, FineCall, Stops, Refused, at_terminal, at_text_end, RefusedCall, call_at_terminal, call_at_text_end}
 use Rattle.core_grammar.specs.Laws.{RefusedDerivesNone, RefusedDerivesNoCall, OneAnswer, OneCallAnswer}
 use Rattle.core_parser.specs.declared.value.Value.{Value}
 use Rattle.core_parser.specs.Values.{Values}
@@ -52,8 +53,8 @@ module _ (z : Place) (n : ℕ) where
       ap (λ b. b && all_ok (limit n) needs bs) (or_false (nat_le k n) (nat_le (length bs) m) l p.0) ∙ is_within needs bs m lt p.1
   is_within (argument i ∷ needs) bs m lt h =
       let l : nat_le (length bs) m ≡ false = grind (arith, nat_tests) in
-      let p = and_parts (within n m) (nat_le i argument_limit || nat_le (length bs) m) (all_ok (within n m) needs bs) h in
-      ap (λ b. b && all_ok (limit n) needs bs) (or_false (nat_le i argument_limit) (nat_le (length bs) m) l p.0) ∙ is_within needs bs m lt p.1
+      let p = and_parts (within n m) (nat_le i ARITY_LIMIT || nat_le (length bs) m) (all_ok (within n m) needs bs) h in
+      ap (λ b. b && all_ok (limit n) needs bs) (or_false (nat_le i ARITY_LIMIT) (nat_le (length bs) m) l p.0) ∙ is_within needs bs m lt p.1
 
   is_longer : (us xs : List Terminal) (t : Terminal) → length xs < length (t ∷ us ++ xs)
   is_longer us xs t = let a : length (us ++ xs) ≡ length us + length xs = length-append us xs in omega arith
@@ -73,7 +74,7 @@ module _ (z : Place) (n : ℕ) where
       by_test go ss' vs' needs e false a h = cc
 
       by_move : ((ss' : Symbols) (vs' : Values) → run (within n (length xs)) z ss' vs' (us ++ xs) ≡ Ok ws → Reached ss' vs' us) → (m : Move) → move ss vs t.kind t.at ≡ m → gone m (λ needs. all_ok (within n (length xs)) needs (t ∷ us ++ xs)) t.kind t.at (λ ss vs. run (within n (length xs)) z ss vs (us ++ xs)) ≡ Ok ws → Reached ss vs (t ∷ us)
-      by_move go (No integer) e h = cc
+      by_move go (No wanted) e h = cc
       by_move go (Go ss' vs' needs) e h = by_test go ss' vs' needs e (all_ok (within n (length xs)) needs (t ∷ us ++ xs)) refl h
 
   -- one path after another
@@ -86,7 +87,7 @@ module _ (z : Place) (n : ℕ) where
       }
 
   refused_there : (us : List Terminal) (t : Terminal) (ws : List Terminal) (ss' : Symbols) (vs' : Values) (f : Fault) → Path z n module_start [] us ss' vs' → Stops n us t f → (m : Move) → move ss' vs' t.kind t.at ≡ m → gone m (λ needs. all_ok (limit n) needs (t ∷ ws)) t.kind t.at (λ ss vs. run (limit n) z ss vs ws) ≡ refused_as (f, t.at)
-  refused_there us t ws ss' vs' f path s (No integer) e = ap (λ g. refused_as (g, t.at)) (one_reason n us t (why t.kind integer) f (A.stops z n us t.kind t.at ss' vs' integer path e) s)
+  refused_there us t ws ss' vs' f path s (No wanted) e = ap (λ g. refused_as (g, t.at)) (one_reason n us t (why t.kind wanted) f (A.stops z n us t.kind t.at ss' vs' wanted path e) s)
   refused_there us t ws ss' vs' f path s (Go ss2 vs2 needs) e = tested (all_ok (limit n) needs (t ∷ ws)) refl
     where
       impossible : (f : Fault) → Stops n us t f → Viable any (us ++ t ∷ []) → Fine n (us ++ t ∷ []) → ⊥
@@ -119,7 +120,7 @@ module _ (z : Place) (n : ℕ) where
   -- the same for calls, of which the place is told alone
 
   call_refused_there : (us : List Terminal) (t : Terminal) (ws : List Terminal) (ss' : Symbols) (vs' : Values) → Path z n call_start [] us ss' vs' → ¬ FineCall n (us ++ t ∷ []) → (m : Move) → move ss' vs' t.kind t.at ≡ m → call_read (gone m (λ needs. all_ok (limit n) needs (t ∷ ws)) t.kind t.at (λ ss vs. run (limit n) z ss vs ws)) ≡ Err t.at
-  call_refused_there us t ws ss' vs' path s (No integer) e = refl
+  call_refused_there us t ws ss' vs' path s (No wanted) e = refl
   call_refused_there us t ws ss' vs' path s (Go ss2 vs2 needs) e = tested (all_ok (limit n) needs (t ∷ ws)) refl
     where
       tested : (a : Bool) → all_ok (limit n) needs (t ∷ ws) ≡ a → call_read (if a then run (limit n) z ss2 vs2 ws else refused_as (why_not needs, t.at)) ≡ Err t.at

@@ -1,11 +1,13 @@
 -- The machine reads exactly what is derived, and refuses the first terminal that doesn't go on.
 use Rattle.std.proofs.Common.{◌≡◌, ℕ, suc, ◌≤◌, List, [], ◌∷◌, ◌++◌, length, Bool, true, false, ◌&&◌, ◌||◌, nat_le, if◌then◌else◌, Ok, Err, refl, ap, sym, ◌∙◌, append_assoc, append-nil, arith, subst}
 use Rattle.std.proofs.lemmas.Bool.Decides.{nat_tests}
+use Rattle.hipe_base.specs.declared.limits.TheConstants.{ARITY_LIMIT}
 use Rattle.hipe_terms.specs.declared.place.Place.{Place}
 use Rattle.core_grammar.specs.declared.fault.Fault.{Fault}
 use Rattle.core_grammar.specs.declared.terminal.Terminal.{Terminal}
 use Rattle.core_grammar.specs.Leave.{Need, part, variable_operand, argument, Leave}
-use Rattle.core_grammar.specs.Language.{argument_limit, limit, any, any_operand, within}
+use Rattle.core_grammar.specs.Language.{limit, any, any_operand, within}
+use Rattle.core_parser.specs.declared.moved.Wanted.{Wanted}
 use Rattle.core_parser.specs.declared.symbol.Symbol.{Symbol}
 use Rattle.core_parser.specs.declared.value.Value.{Value}
 use Rattle.core_parser.specs.Values.{Values}
@@ -60,7 +62,7 @@ le_is a b h = grind (arith, nat_tests)
 
 module _ (z : Place) where
   gone_ok : (ok : Leave) (m : Move) (t : Terminal) (ts : List Terminal) (ws : Values) (X : Type 0) → Backs ok m t ts X → ((ss : Symbols) (vs : Values) → run ok z ss vs ts ≡ Ok ws → Holds ok ss ts) → gone m (λ needs. all_ok ok needs (t ∷ ts)) t.kind t.at (λ ss vs. run ok z ss vs ts) ≡ Ok ws → X
-  gone_ok ok (No integer) t ts ws X b go h = cc
+  gone_ok ok (No wanted) t ts ws X b go h = cc
   gone_ok ok (Go ss vs needs) t ts ws X b go h = tested (all_ok ok needs (t ∷ ts)) b h
     where
       tested : (a : Bool) → (a ≡ true → Holds ok ss ts → X) → (if a then run ok z ss vs ts else Err (why_not needs, t.at)) ≡ Ok ws → X
@@ -80,7 +82,7 @@ module _ (z : Place) where
     -- what is within the limit may be
     pub record Wider (ok : Leave) : Type 0 where
       pub parts : (k : ℕ) (us : List Terminal) → nat_le k n ≡ true → ok (part k) us ≡ true
-      pub arguments : (i : ℕ) (us : List Terminal) → nat_le i argument_limit ≡ true → ok (argument i) us ≡ true
+      pub arguments : (i : ℕ) (us : List Terminal) → nat_le i ARITY_LIMIT ≡ true → ok (argument i) us ≡ true
 
     pub loose_is_wider : (ok : Leave) → Loose ok → Wider ok
     loose_is_wider ok l = record { parts = λ k us h. l.parts k us; arguments = λ i us h. l.arguments i us }
@@ -98,7 +100,7 @@ module _ (z : Place) where
         ap (λ b. b && all_ok ok needs bs) (w.parts k bs p.0) ∙ wider_all ok w needs cs bs p.1
     wider_all ok w (variable_operand ∷ needs) cs bs h = cc
     wider_all ok w (argument i ∷ needs) cs bs h =
-        let p = and_parts ok (nat_le i argument_limit) (all_ok (limit n) needs cs) h in
+        let p = and_parts ok (nat_le i ARITY_LIMIT) (all_ok (limit n) needs cs) h in
         ap (λ b. b && all_ok ok needs bs) (w.arguments i bs p.0) ∙ wider_all ok w needs cs bs p.1
 
     -- from one state to another over terminals
@@ -122,12 +124,12 @@ module _ (z : Place) where
 
     -- where a run is refused, and the path to it
     pub data Found (ss : Symbols) (vs : Values) (ts : List Terminal) : Fault → Place → Type 0 where
-      found_none : (us : List Terminal) (t : Terminal) (ws : List Terminal) (ss' : Symbols) (vs' : Values) (integer : Bool) → ts ≡ us ++ t ∷ ws → Path ss vs us ss' vs' → move ss' vs' t.kind t.at ≡ No integer → Found ss vs ts (why t.kind integer) t.at
+      found_none : (us : List Terminal) (t : Terminal) (ws : List Terminal) (ss' : Symbols) (vs' : Values) (wanted : Wanted) → ts ≡ us ++ t ∷ ws → Path ss vs us ss' vs' → move ss' vs' t.kind t.at ≡ No wanted → Found ss vs ts (why t.kind wanted) t.at
       found_not_allowed : (us : List Terminal) (t : Terminal) (ws : List Terminal) (ss' ss'' : Symbols) (vs' vs'' : Values) (needs : List Need) → ts ≡ us ++ t ∷ ws → Path ss vs us ss' vs' → move ss' vs' t.kind t.at ≡ Go ss'' vs'' needs → all_ok (limit n) needs (t ∷ ws) ≡ false → Found ss vs ts (why_not needs) t.at
       found_end : (s : Symbol) (ss' : Symbols) (vs' : Values) → Path ss vs ts (s ∷ ss') vs' → Found ss vs ts Fault.Syntax z
 
     longer_found : (t : Terminal) (ts : List Terminal) (ss ss' : Symbols) (vs vs' : Values) (needs : List Need) (f : Fault) (p : Place) → move ss vs t.kind t.at ≡ Go ss' vs' needs → all_ok (limit n) needs (t ∷ ts) ≡ true → Found ss' vs' ts f p → Found ss vs (t ∷ ts) f p
-    longer_found t ts ss ss' vs vs' needs f p e a (found_none us u ws ss'' vs'' integer is path stuck) = found_none (t ∷ us) u ws ss'' vs'' integer (ap (λ xs. t ∷ xs) is) (longer_path t (t ∷ ts) us ss ss' ss'' vs vs' vs'' needs e a path) stuck
+    longer_found t ts ss ss' vs vs' needs f p e a (found_none us u ws ss'' vs'' wanted is path stuck) = found_none (t ∷ us) u ws ss'' vs'' wanted (ap (λ xs. t ∷ xs) is) (longer_path t (t ∷ ts) us ss ss' ss'' vs vs' vs'' needs e a path) stuck
     longer_found t ts ss ss' vs vs' needs f p e a (found_not_allowed us u ws ss'' ss3 vs'' vs3 ks is path go over) = found_not_allowed (t ∷ us) u ws ss'' ss3 vs'' vs3 ks (ap (λ xs. t ∷ xs) is) (longer_path t (t ∷ ts) us ss ss' ss'' vs vs' vs'' needs e a path) go over
     longer_found t ts ss ss' vs vs' needs f p e a (found_end s ss'' vs'' path) = found_end s ss'' vs'' (longer_path t (t ∷ ts) ts ss ss' (s ∷ ss'') vs vs' vs'' needs e a path)
 
@@ -144,7 +146,7 @@ module _ (z : Place) where
         by_test finds ss' vs' needs e false a h = subst (λ (x : Fault × Place). Found ss vs (t ∷ ts) x.0 x.1) (fault_is h) (found_not_allowed [] t ts ss ss' vs vs' needs refl (no_path ss vs) e a)
 
         by_move : ((ss' : Symbols) (vs' : Values) → run (limit n) z ss' vs' ts ≡ Err x → Found ss' vs' ts x.0 x.1) → (m : Move) → move ss vs t.kind t.at ≡ m → gone m (λ needs. all_ok (limit n) needs (t ∷ ts)) t.kind t.at (λ ss vs. run (limit n) z ss vs ts) ≡ Err x → Found ss vs (t ∷ ts) x.0 x.1
-        by_move finds (No integer) e h = subst (λ (x : Fault × Place). Found ss vs (t ∷ ts) x.0 x.1) (fault_is h) (found_none [] t ts ss vs integer refl (no_path ss vs) e)
+        by_move finds (No wanted) e h = subst (λ (x : Fault × Place). Found ss vs (t ∷ ts) x.0 x.1) (fault_is h) (found_none [] t ts ss vs wanted refl (no_path ss vs) e)
         by_move finds (Go ss' vs' needs) e h = by_test finds ss' vs' needs e (all_ok (limit n) needs (t ∷ ts)) refl h
 
     -- what is above the limit is above it among the terminals that were read
@@ -160,7 +162,7 @@ module _ (z : Place) where
         tested false b l rest h = ap (λ b. b && all_ok (within n (length ws)) needs (t ∷ ws)) l
     shorter (argument i ∷ needs) t ws as' h =
         let l : nat_le (suc (length ws)) (length ws) ≡ false = grind (arith, nat_tests) in
-        tested (nat_le i argument_limit) (nat_le (suc (length ws)) (length ws)) l (shorter needs t ws as') h
+        tested (nat_le i ARITY_LIMIT) (nat_le (suc (length ws)) (length ws)) l (shorter needs t ws as') h
       where
         tested : (a b : Bool) → b ≡ false → (all_ok (limit n) needs as' ≡ false → all_ok (within n (length ws)) needs (t ∷ ws) ≡ false) → (a && all_ok (limit n) needs as') ≡ false → ((a || b) && all_ok (within n (length ws)) needs (t ∷ ws)) ≡ false
         tested true b l rest h = rest h
@@ -173,7 +175,7 @@ module _ (z : Place) where
       fine_of us ss' vs' p =
           let ws = ending z ss' in
           let ok = within n (length ws) in
-          let h : Holds ok ss' ws = ends z ok (length ws) (λ k xs le. or_true (nat_le k n) _ (le_is (length xs) (length ws) le)) (λ i xs le. or_true (nat_le i argument_limit) _ (le_is (length xs) (length ws) le)) ss' (omega arith) in
+          let h : Holds ok ss' ws = ends z ok (length ws) (λ k xs le. or_true (nat_le k n) _ (le_is (length xs) (length ws) le)) (λ i xs le. or_true (nat_le i ARITY_LIMIT) _ (le_is (length xs) (length ws) le)) ss' (omega arith) in
           let d = holds ok (us ++ ws) (p.back ok (within_is_wider (length ws)) ws h) in
           (ws, d.0, d.1)
 
@@ -203,14 +205,14 @@ module _ (z : Place) where
           cc
 
       -- .. as where there is no move
-      pub stuck : (ok : Leave) → Wider ok → (us : List Terminal) (t : Terminal) (ss' : Symbols) (vs' : Values) (integer : Bool) → Path start [] us ss' vs' → move ss' vs' t.kind t.at ≡ No integer → (ws : List Terminal) × (x : X) × D ok ((us ++ t ∷ []) ++ ws) x → ⊥
-      stuck ok w us t ss' vs' integer path e v =
-          never ok w us t ss' vs' path v.0 v.1 (why t.kind integer, t.at) (ap (λ m. gone m (λ needs. all_ok ok needs (t ∷ v.0)) t.kind t.at (λ ss vs. run ok z ss vs v.0)) e) v.2
+      pub stuck : (ok : Leave) → Wider ok → (us : List Terminal) (t : Terminal) (ss' : Symbols) (vs' : Values) (wanted : Wanted) → Path start [] us ss' vs' → move ss' vs' t.kind t.at ≡ No wanted → (ws : List Terminal) × (x : X) × D ok ((us ++ t ∷ []) ++ ws) x → ⊥
+      stuck ok w us t ss' vs' wanted path e v =
+          never ok w us t ss' vs' path v.0 v.1 (why t.kind wanted, t.at) (ap (λ m. gone m (λ needs. all_ok ok needs (t ∷ v.0)) t.kind t.at (λ ss vs. run ok z ss vs v.0)) e) v.2
 
-      pub stuck_within : (us : List Terminal) (t : Terminal) (ss' : Symbols) (vs' : Values) (integer : Bool) → Path start [] us ss' vs' → move ss' vs' t.kind t.at ≡ No integer → (ws : List Terminal) × (x : X) × D (within n (length ws)) ((us ++ t ∷ []) ++ ws) x → ⊥
-      stuck_within us t ss' vs' integer path e v =
+      pub stuck_within : (us : List Terminal) (t : Terminal) (ss' : Symbols) (vs' : Values) (wanted : Wanted) → Path start [] us ss' vs' → move ss' vs' t.kind t.at ≡ No wanted → (ws : List Terminal) × (x : X) × D (within n (length ws)) ((us ++ t ∷ []) ++ ws) x → ⊥
+      stuck_within us t ss' vs' wanted path e v =
           let ok = within n (length v.0) in
-          never ok (within_is_wider (length v.0)) us t ss' vs' path v.0 v.1 (why t.kind integer, t.at) (ap (λ m. gone m (λ needs. all_ok ok needs (t ∷ v.0)) t.kind t.at (λ ss vs. run ok z ss vs v.0)) e) v.2
+          never ok (within_is_wider (length v.0)) us t ss' vs' path v.0 v.1 (why t.kind wanted, t.at) (ap (λ m. gone m (λ needs. all_ok ok needs (t ∷ v.0)) t.kind t.at (λ ss vs. run ok z ss vs v.0)) e) v.2
 
       -- .. or no leave
       pub not_allowed : (ok : Leave) → Wider ok → (us : List Terminal) (t : Terminal) (ss' ss2 : Symbols) (vs' vs2 : Values) (needs : List Need) → Path start [] us ss' vs' → move ss' vs' t.kind t.at ≡ Go ss2 vs2 needs → (ws : List Terminal) → all_ok ok needs (t ∷ ws) ≡ false → (x : X) → D ok ((us ++ t ∷ []) ++ ws) x → ⊥

@@ -1,17 +1,20 @@
 -- Where a move leads, the grammar leads: clauses, definitions, calls, and every symbol.
 use Rattle.std.proofs.Common.{◌≡◌, ℕ, ◌+◌, ◌==◌, List, [], ◌∷◌, Bool, true, false, if◌then◌else◌, refl, sym, subst}
-use Rattle.std.proofs.lemmas.Bool.{eqb-true}
+use denote.Enum.Bare.{same_true}
 use Rattle.hipe_terms.specs.declared.place.Place.{Place}
 use Rattle.core_ast.specs.declared.pattern.Var.{Var}
 use Rattle.core_ast.specs.declared.pattern.Pattern.{Pattern}
 use Rattle.core_ast.specs.declared.pattern.PatNode.TheOpen.{PatNode-F}
 use Rattle.core_ast.specs.declared.tree.Clause.{Clause}
 use Rattle.core_grammar.specs.declared.terminal.Kind.{Kind}
+use Rattle.core_grammar.specs.contracts.terminal.Mark.{the_type}
 use Rattle.core_grammar.specs.declared.terminal.Mark.{Mark}
 use Rattle.core_grammar.specs.declared.terminal.Terminal.{Terminal}
 use Rattle.core_grammar.specs.Trees.{variable_at, pattern_at, name_of, clause_at}
 use Rattle.core_grammar.specs.Leave.{Need, part, argument, Leave, token, mark}
+use Rattle.core_grammar.specs.Marks.{same_mark}
 use Rattle.core_grammar.specs.Grammar as G
+use Rattle.core_parser.specs.declared.moved.Wanted.{Wanted}
 use Rattle.core_parser.specs.declared.symbol.Closer.{Closer}
 use Rattle.core_parser.specs.declared.symbol.Element.{Element}
 use Rattle.core_parser.specs.declared.symbol.Maker.{Maker}
@@ -19,10 +22,10 @@ use Rattle.core_parser.specs.declared.symbol.Part.{Part}
 use Rattle.core_parser.specs.declared.symbol.Symbol.{Symbol}
 use Rattle.core_parser.specs.declared.symbol.Term.{Term}
 use Rattle.core_parser.specs.Values.{Values, literal, variable_pattern, made}
-use Rattle.core_parser.specs.Machine.{Symbols, Move, Go, No, move, all_ok, code, also, annotation, annotation_list, guarded, when_guarded, one_when_guarded, alias_of, argument_pushed, defined}
+use Rattle.core_parser.specs.Machine.{Symbols, Move, Go, No, move, all_ok, also, annotation, annotation_list, guarded, when_guarded, one_when_guarded, alias_of, argument_pushed, defined}
 use Rattle.core_parser.specs.Machine as M
 use Rattle.core_parser.proofs.Meaning.{wants, make, bare_name, bare_constant, fun, arity, pattern', alias_name, no_alias, equals, clause, clause_inside, clause_inside_variable, clause_twice_inside, clause_twice_inside_variable, clause_twice_inside_annotated, clause_middle, clauses_none, clauses_some, definitions, arguments_first, argument', arguments_none, arguments_some, Holds, on, of_variable, patterns_of, all_patterns, annotation_list_of, annotation_of, held_annotation, guarded_of, held_guarded}
-use Rattle.core_parser.proofs.Backs.{one_code, Backs, widen, alone, and_parts, after_atom_back, arity_back, constant_back, module_end_back, bare_back, annotated_back, HeldPattern, held_pattern, plain_back, bare_pattern_back, pattern_back, pattern_inside_back, alias_name_back, pattern_inside_variable_back, after_variable_back, item_back, first_back, rest_back, cells_first_back, cells_rest_back, tail_back, tail_first_back, expression_tail_inside_back, pattern_tail_inside_back, variables_back}
+use Rattle.core_parser.proofs.Backs.{Backs, widen, alone, and_parts, after_atom_back, arity_back, constant_back, module_end_back, bare_back, annotated_back, HeldPattern, held_pattern, plain_back, bare_pattern_back, pattern_back, pattern_inside_back, alias_name_back, pattern_inside_variable_back, after_variable_back, item_back, first_back, rest_back, cells_first_back, cells_rest_back, tail_back, tail_first_back, expression_tail_inside_back, pattern_tail_inside_back, variables_back}
 
 module _ (ok : Leave) where
   -- `when`, a guard and a body make a clause with the patterns before them
@@ -195,7 +198,7 @@ module _ (ok : Leave) where
   -- calls
 
   also_back : {X Y : Type 0} (need : Need) (m : Move) (t : Terminal) (ts : List Terminal) → (ok need (t ∷ ts) ≡ true → X → Y) → Backs ok m t ts X → Backs ok (also need m) t ts Y
-  also_back need (No integer) t ts f b = tt
+  also_back need (No wanted) t ts f b = tt
   also_back need (Go ss vs needs) t ts f b = λ o h. let p = and_parts ok (ok need (t ∷ ts)) (all_ok ok needs (t ∷ ts)) o in f p.0 (b p.1 h)
 
   argument_of : (i : ℕ) (ss : Symbols) (ts : List Terminal) → ok (argument i) ts ≡ true → Holds ok (Symbol.Bare (Part.Constant 1) ∷ ss) ts → Holds ok (Symbol.Argument i ∷ ss) ts
@@ -224,9 +227,9 @@ module _ (ok : Leave) where
   -- words and signs
 
   wants_back : (m : Mark) (t : Kind) (p : Place) (ss : Symbols) (vs : Values) (ts : List Terminal) → Backs ok (M.wants m t ss vs) (token t p) ts (Holds ok (Symbol.Wants m ∷ ss) (token t p ∷ ts))
-  wants_back m (Kind.Mark n) p ss vs ts = tested (code m == code n) (λ is. one_code m n (eqb-true (code m) (code n) is))
+  wants_back m (Kind.Mark n) p ss vs ts = tested (same_mark m n) (same_true the_type tt m n)
     where
-      tested : (b : Bool) → (b ≡ true → m ≡ n) → Backs ok (if b then Go ss vs [] else No false) (mark n p) ts (Holds ok (Symbol.Wants m ∷ ss) (mark n p ∷ ts))
+      tested : (b : Bool) → (b ≡ true → m ≡ n) → Backs ok (if b then Go ss vs [] else No Wanted.Other) (mark n p) ts (Holds ok (Symbol.Wants m ∷ ss) (mark n p ∷ ts))
       tested true is = λ o h. subst (λ (x : Mark). Holds ok (Symbol.Wants x ∷ ss) (mark n p ∷ ts)) (sym (is refl)) (on (wants n p) h)
       tested false is = tt
   wants_back m _ p ss vs ts = tt

@@ -12,8 +12,10 @@ use Rattle.core_grammar.specs.declared.terminal.Mark.{Mark}
 use Rattle.core_grammar.specs.declared.terminal.Terminal.{Terminal}
 use Rattle.core_grammar.specs.Leave.{Need, part, variable_operand, argument, Leave, text_level}
 use Rattle.core_grammar.specs.Language.{is_foreign}
+use Rattle.core_grammar.specs.Marks.{same_mark}
 use Rattle.core_grammar.specs.Trees.{constant_of, constant_text, variable_at, pattern_at, pattern_text, expression_at, text_at}
 use Rattle.core_parser.specs.declared.moved.Moved.{Moved}
+use Rattle.core_parser.specs.declared.moved.Wanted.{Wanted}
 use Rattle.core_parser.specs.declared.symbol.Closer.{Closer}
 use Rattle.core_parser.specs.declared.symbol.Element.{Element}
 use Rattle.core_parser.specs.declared.symbol.Maker.{Maker}
@@ -27,10 +29,10 @@ use Rattle.core_parser.specs.Values.{Values, top, to_module, to_call, no_cells, 
 abbrev pub Symbols : Type 0
 Symbols = List Symbol
 
--- what comes next, the values, and what the terminal needs leave for; or no move, and whether an integer had one
+-- what comes next, the values, and what the terminal needs leave for; or no move, and what is wanted in its place
 pub data Move : Type 0 where
   Go : (ss : Symbols) (vs : Values) (needs : List Need) → Move
-  No : (integer : Bool) → Move
+  No : (wanted : Wanted) → Move
 
 -- what is to come after a first terminal
 
@@ -77,20 +79,20 @@ deeper (Term.Constant k) = Term.Constant (k + 1)
 
 abbrev pub bare_atom : Kind → Symbols → Values → Move
 bare_atom (Kind.Atom a) ss vs = Go ss (Value.Atom a ∷ vs) []
-bare_atom _ ss vs = No false
+bare_atom _ ss vs = No Wanted.Other
 
 abbrev pub bare_operand : Kind → Symbols → Values → Move
 bare_operand (Kind.Atom a) ss vs = Go ss (Value.Atom a ∷ vs) []
 bare_operand (Kind.Variable x) ss vs = Go ss (Value.Atom [] ∷ vs) (variable_operand ∷ [])
-bare_operand _ ss vs = No false
+bare_operand _ ss vs = No Wanted.Other
 
 abbrev pub bare_variable : Kind → Place → Symbols → Values → Move
 bare_variable (Kind.Variable x) p ss vs = Go ss (Value.Variable (variable_at p x) ∷ vs) []
-bare_variable _ p ss vs = No false
+bare_variable _ p ss vs = No Wanted.Other
 
 abbrev pub bare_name : Kind → Place → Symbols → Values → Move
 bare_name (Kind.Atom a) p ss vs = Go (Symbol.Wants Mark.Slash ∷ Symbol.Arity ∷ ss) (Value.Atom a ∷ Value.At p ∷ vs) []
-bare_name _ p ss vs = No false
+bare_name _ p ss vs = No Wanted.Other
 
 abbrev pub constant : ℕ → Kind → Place → Symbols → Values → Move
 constant k (Kind.Natural n) p ss vs = Go ss (Value.Constant (constant_of (Constant-F.Int (pos n))) ∷ vs) (part k ∷ [])
@@ -99,11 +101,11 @@ constant k (Kind.Text s) p ss vs = Go ss (Value.Constant (constant_text s) ∷ v
 constant k (Kind.Atom a) p ss vs = Go ss (Value.Constant (constant_of (Constant-F.Atom a)) ∷ vs) (part k ∷ [])
 constant k (Kind.Mark Mark.OpenSquare) p ss vs = Go (Symbol.CellsFirst (Term.Constant k) ∷ ss) (Value.Constants [] ∷ Value.At p ∷ Value.At p ∷ vs) (part k ∷ [])
 constant k (Kind.Mark Mark.OpenBrace) p ss vs = Go (Symbol.First (Element.Term (Term.Constant (k + 1))) Closer.Brace ∷ Symbol.Make (Maker.Tuple (Term.Constant k)) ∷ ss) (Value.Constants [] ∷ Value.At p ∷ vs) (part k ∷ [])
-constant k _ p ss vs = No true
+constant k _ p ss vs = No Wanted.Integer
 
 abbrev pub bare_fun : ℕ → Kind → Place → Symbols → Values → Move
 bare_fun k (Kind.Mark Mark.Fun) p ss vs = Go (Symbol.Wants Mark.OpenRound ∷ Symbol.First Element.Variable Closer.Round ∷ Symbol.Wants Mark.Arrow ∷ expression (k + 1) (Symbol.Make Maker.Fun ∷ ss)) (Value.Variables [] ∷ Value.At p ∷ vs) (part k ∷ [])
-bare_fun k _ p ss vs = No false
+bare_fun k _ p ss vs = No Wanted.Other
 
 abbrev pub bare_expression : ℕ → Kind → Place → Symbols → Values → Move
 bare_expression k (Kind.Natural n) p ss vs = Go ss (Value.Expression (expression_at p (Node-F.Int (pos n))) ∷ vs) (part k ∷ [])
@@ -124,7 +126,7 @@ bare_expression k (Kind.Mark Mark.Primop) p ss vs = Go (Symbol.Annotated Part.At
 bare_expression k (Kind.Mark Mark.Try) p ss vs = Go (expression (k + 1) (Symbol.Wants Mark.Of ∷ Symbol.Variables ∷ Symbol.Wants Mark.Arrow ∷ expression (k + 1) (Symbol.Wants Mark.Catch ∷ Symbol.Variables ∷ Symbol.Wants Mark.Arrow ∷ expression (k + 1) (Symbol.Make Maker.Try ∷ ss)))) (Value.At p ∷ vs) (part k ∷ [])
 bare_expression k (Kind.Mark Mark.Do) p ss vs = Go (expression (k + 1) (expression (k + 1) (Symbol.Make Maker.Do ∷ ss))) (Value.At p ∷ vs) (part k ∷ [])
 bare_expression k (Kind.Mark Mark.Catch) p ss vs = Go (expression (k + 1) (Symbol.Make Maker.Catch ∷ ss)) (Value.At p ∷ vs) (part k ∷ [])
-bare_expression k _ p ss vs = No true
+bare_expression k _ p ss vs = No Wanted.Integer
 
 abbrev pub bare_module : Kind → Symbols → Values → Move
 bare_module (Kind.Mark Mark.Module) ss vs =
@@ -132,7 +134,7 @@ bare_module (Kind.Mark Mark.Module) ss vs =
     ∷ Symbol.Wants Mark.OpenSquare ∷ Symbol.Make (Maker.Empty Element.Export) ∷ Symbol.First Element.Export Closer.Square
     ∷ Symbol.Wants Mark.Attributes ∷ Symbol.Wants Mark.OpenSquare ∷ Symbol.Make (Maker.Empty Element.Attribute) ∷ Symbol.First Element.Attribute Closer.Square
     ∷ Symbol.Make Maker.NoDefinitions ∷ Symbol.Definitions 1 ∷ Symbol.ModuleEnd ∷ ss) vs []
-bare_module _ ss vs = No false
+bare_module _ ss vs = No Wanted.Other
 
 abbrev pub bare : Part → Kind → Place → Symbols → Values → Move
 bare Part.Module t p ss vs = bare_module t ss vs
@@ -156,7 +158,7 @@ after_atom _ ss vs skip = skip
 
 abbrev pub arity : Kind → Symbols → Values → Move
 arity (Kind.Natural n) ss vs = Go ss (with_arity n vs) []
-arity _ ss vs = No true
+arity _ ss vs = No Wanted.Integer
 
 -- patterns
 
@@ -168,7 +170,7 @@ plain_pattern k (Kind.Text s) p ss vs = Go ss (Value.Pattern (pattern_text p s) 
 plain_pattern k (Kind.Atom a) p ss vs = Go ss (Value.Pattern (pattern_at p (PatNode-F.Atom a)) ∷ vs) (part k ∷ [])
 plain_pattern k (Kind.Mark Mark.OpenSquare) p ss vs = Go (Symbol.CellsFirst (Term.Pattern k) ∷ ss) (Value.Patterns [] ∷ Value.At p ∷ Value.At p ∷ vs) (part k ∷ [])
 plain_pattern k (Kind.Mark Mark.OpenBrace) p ss vs = Go (Symbol.First (Element.Term (Term.Pattern (k + 1))) Closer.Brace ∷ Symbol.Make (Maker.Tuple (Term.Pattern k)) ∷ ss) (Value.Patterns [] ∷ Value.At p ∷ vs) (part k ∷ [])
-plain_pattern k _ p ss vs = No true
+plain_pattern k _ p ss vs = No Wanted.Integer
 
 -- a variable of a pattern of this level
 abbrev pub pattern_variable : Symbol → ℕ → List ℕ → Place → Symbols → Values → Move
@@ -190,11 +192,11 @@ pattern_inside k t p ss vs = plain_pattern k t p (annotation ss) vs
 abbrev pub pattern_inside_variable : ℕ → Kind → Symbols → Values → Move
 pattern_inside_variable k (Kind.Mark Mark.Equals) ss vs = Go (alias_of k (annotation ss)) vs []
 pattern_inside_variable k (Kind.Mark Mark.Dash) ss vs = Go (annotation_list (Symbol.AfterVariable k ∷ ss)) vs []
-pattern_inside_variable k _ ss vs = No false
+pattern_inside_variable k _ ss vs = No Wanted.Other
 
 abbrev pub alias_name : ℕ → Kind → Place → Symbols → Values → Move
 alias_name k (Kind.Variable x) p ss vs = Go ss (Value.Variable (variable_at p x) ∷ vs) (part k ∷ [])
-alias_name k _ p ss vs = No false
+alias_name k _ p ss vs = No Wanted.Other
 
 abbrev pub after_variable : ℕ → Kind → Symbols → Values → Move → Move
 after_variable k (Kind.Mark Mark.Equals) ss vs skip = Go (alias_of k ss) vs []
@@ -225,7 +227,7 @@ first x c t p ss vs = if closes c t then Go ss vs [] else item x t p (Symbol.Mak
 
 abbrev pub comma : Element → Closer → Kind → Symbols → Values → Move
 comma x c (Kind.Mark Mark.Comma) ss vs = Go (Symbol.Item x ∷ Symbol.Make (Maker.Push x) ∷ Symbol.Rest x c ∷ ss) vs []
-comma x c _ ss vs = No false
+comma x c _ ss vs = No Wanted.Other
 
 abbrev pub rest : Element → Closer → Kind → Symbols → Values → Move
 rest x c t ss vs = if closes c t then Go ss vs [] else comma x c t ss vs
@@ -240,7 +242,7 @@ abbrev pub cells_rest : Term → Kind → Symbols → Values → Move
 cells_rest x (Kind.Mark Mark.Comma) ss vs = Go (Symbol.Item (Element.Term (deeper x)) ∷ Symbol.Make (Maker.Push (Element.Term (deeper x))) ∷ Symbol.CellsRest x ∷ ss) vs []
 cells_rest x (Kind.Mark Mark.Bar) ss vs = Go (Symbol.Tail x ∷ Symbol.Wants Mark.CloseSquare ∷ ss) vs []
 cells_rest x (Kind.Mark Mark.CloseSquare) ss vs = Go ss (all_cells x vs) []
-cells_rest x _ ss vs = No false
+cells_rest x _ ss vs = No Wanted.Other
 
 abbrev pub level_of : Term → ℕ
 level_of (Term.Expression k) = k
@@ -260,7 +262,7 @@ other_tail (Term.Constant k) t p ss vs = constant k t p ss vs
 abbrev pub tail_open : Term → Symbols → Values → Move
 tail_open (Term.Expression k) ss vs = Go (Symbol.ExpressionTailInside k ∷ ss) vs []
 tail_open (Term.Pattern k) ss vs = Go (Symbol.PatternTailInside k ∷ ss) vs []
-tail_open (Term.Constant k) ss vs = No true
+tail_open (Term.Constant k) ss vs = No Wanted.Integer
 
 abbrev pub tail : Term → Kind → Place → Symbols → Values → Move
 tail x (Kind.Mark Mark.OpenSquare) p ss vs = tail_list x p ss vs
@@ -311,7 +313,7 @@ abbrev pub clause_inside_variable : ℕ → Kind → Symbols → Values → Move
 clause_inside_variable k (Kind.Mark Mark.Equals) ss vs = Go (alias_of (k + 1) (Symbol.ClauseMiddle k ∷ ss)) vs []
 clause_inside_variable k (Kind.Mark Mark.Dash) ss vs = Go (annotation_list (Symbol.AfterVariable (k + 1) ∷ one_when_guarded k ss)) vs []
 clause_inside_variable k (Kind.Mark Mark.When) ss vs = Go (guarded k (annotation ss)) (one_pattern (variable_pattern vs)) []
-clause_inside_variable k _ ss vs = No false
+clause_inside_variable k _ ss vs = No Wanted.Other
 
 abbrev pub clause_twice_inside : ℕ → Kind → Place → Symbols → Values → Move
 clause_twice_inside k (Kind.Variable x) p ss vs = pattern_variable (Symbol.ClauseTwiceInsideVariable k) (k + 1) x p ss vs
@@ -321,17 +323,17 @@ clause_twice_inside k t p ss vs = plain_pattern (k + 1) t p (annotation (one_whe
 abbrev pub clause_twice_inside_variable : ℕ → Kind → Symbols → Values → Move
 clause_twice_inside_variable k (Kind.Mark Mark.Equals) ss vs = Go (alias_of (k + 1) (annotation (one_when_guarded k (annotation ss)))) vs []
 clause_twice_inside_variable k (Kind.Mark Mark.Dash) ss vs = Go (annotation_list (Symbol.ClauseTwiceInsideAnnotated k ∷ ss)) vs []
-clause_twice_inside_variable k _ ss vs = No false
+clause_twice_inside_variable k _ ss vs = No Wanted.Other
 
 abbrev pub clause_twice_inside_annotated : ℕ → Kind → Symbols → Values → Move
 clause_twice_inside_annotated k (Kind.Mark Mark.Equals) ss vs = Go (alias_of (k + 1) (Symbol.ClauseMiddle k ∷ ss)) vs []
 clause_twice_inside_annotated k (Kind.Mark Mark.When) ss vs = Go (guarded k (annotation ss)) (one_pattern (variable_pattern vs)) []
-clause_twice_inside_annotated k _ ss vs = No false
+clause_twice_inside_annotated k _ ss vs = No Wanted.Other
 
 abbrev pub clause_middle : ℕ → Kind → Symbols → Values → Move
 clause_middle k (Kind.Mark Mark.When) ss vs = Go (guarded k (annotation ss)) (one_pattern vs) []
 clause_middle k (Kind.Mark Mark.Dash) ss vs = Go (annotation_list (one_when_guarded k ss)) vs []
-clause_middle k _ ss vs = No false
+clause_middle k _ ss vs = No Wanted.Other
 
 abbrev pub clauses_rest : ℕ → Kind → Place → Symbols → Values → Move
 clauses_rest k (Kind.Mark Mark.End) p ss vs = Go ss (case vs) []
@@ -350,14 +352,14 @@ definitions k _ p ss vs skip = skip
 
 abbrev pub module_end : Kind → Symbols → Values → Move
 module_end (Kind.Mark Mark.End) ss vs = Go ss (whole_module vs) []
-module_end _ ss vs = No false
+module_end _ ss vs = No Wanted.Other
 
 -- the arguments of a call
 
 -- with another need
 abbrev pub also : Need → Move → Move
 also need (Go ss vs needs) = Go ss vs (need ∷ needs)
-also need (No integer) = No integer
+also need (No wanted) = No wanted
 
 abbrev pub call_argument : ℕ → Kind → Place → Symbols → Values → Move
 call_argument i t p ss vs = also (argument i) (constant 1 t p ss vs)
@@ -372,55 +374,17 @@ arguments_first t p ss vs = call_argument 1 t p (argument_pushed 2 ss) vs
 abbrev pub arguments_rest : ℕ → Kind → Symbols → Values → Move
 arguments_rest i (Kind.Mark Mark.Comma) ss vs = Go (Symbol.Argument i ∷ argument_pushed (i + 1) ss) vs []
 arguments_rest i (Kind.Mark Mark.CloseRound) ss vs = Go ss (whole_call vs) []
-arguments_rest i _ ss vs = No false
+arguments_rest i _ ss vs = No Wanted.Other
 
--- words and signs
-
-abbrev pub code : Mark → ℕ
-code Mark.After = 0
-code Mark.Apply = 1
-code Mark.Attributes = 2
-code Mark.Call = 3
-code Mark.Case = 4
-code Mark.Catch = 5
-code Mark.Do = 6
-code Mark.End = 7
-code Mark.Fun = 8
-code Mark.In = 9
-code Mark.Let = 10
-code Mark.Letrec = 11
-code Mark.Module = 12
-code Mark.Of = 13
-code Mark.Primop = 14
-code Mark.Receive = 15
-code Mark.Timeout = 16
-code Mark.Try = 17
-code Mark.When = 18
-code Mark.OpenRound = 19
-code Mark.CloseRound = 20
-code Mark.OpenBrace = 21
-code Mark.CloseBrace = 22
-code Mark.OpenSquare = 23
-code Mark.CloseSquare = 24
-code Mark.Less = 25
-code Mark.Greater = 26
-code Mark.Comma = 27
-code Mark.Equals = 28
-code Mark.Slash = 29
-code Mark.Colon = 30
-code Mark.Bar = 31
-code Mark.Hash = 32
-code Mark.Tilde = 33
-code Mark.Arrow = 34
-code Mark.Dash = 35
+-- keywords and signs
 
 abbrev pub wants : Mark → Kind → Symbols → Values → Move
-wants m (Kind.Mark n) ss vs = if code m == code n then Go ss vs [] else No false
-wants m _ ss vs = No false
+wants m (Kind.Mark n) ss vs = if same_mark m n then Go ss vs [] else No Wanted.Other
+wants m _ ss vs = No Wanted.Other
 
 -- what a terminal of this kind at this place does
 abbrev pub move : Symbols → Values → Kind → Place → Move
-move [] vs t p = No false
+move [] vs t p = No Wanted.Other
 move (Symbol.Wants m ∷ ss) vs t p = wants m t ss vs
 move (Symbol.Annotated x ∷ ss) vs t p = annotated x t p ss vs
 move (Symbol.Bare x ∷ ss) vs t p = bare x t p ss vs
@@ -458,13 +422,19 @@ move (Symbol.Make maker ∷ ss) vs t p = move ss (made maker vs) t p
 
 -- a run
 
-abbrev pub goes : Move → Bool
-goes (No integer) = false
-goes (Go ss vs needs) = true
+-- what is wanted where an integer has this move
+abbrev pub wanted_by : Move → Wanted
+wanted_by (No wanted) = Wanted.Other
+wanted_by (Go ss vs needs) = Wanted.Integer
+
+-- why a foreign terminal doesn't go on
+abbrev pub outside_of : Wanted → Fault
+outside_of Wanted.Integer = Fault.NotInProfile
+outside_of Wanted.Other = Fault.Syntax
 
 -- why no terminal of this kind goes on
-abbrev pub why : Kind → Bool → Fault
-why t integer = if is_foreign t && integer then Fault.NotInProfile else Fault.Syntax
+abbrev pub why : Kind → Wanted → Fault
+why t wanted = if is_foreign t then outside_of wanted else Fault.Syntax
 
 abbrev pub all_ok : Leave → List Need → List Terminal → Bool
 all_ok ok [] ts = true
@@ -484,7 +454,7 @@ abbrev pub Answer : Type 0
 Answer = Result Values (Fault × Place)
 
 abbrev pub gone : Move → (List Need → Bool) → Kind → Place → (Symbols → Values → Answer) → Answer
-gone (No integer) may t p on = Err (why t integer, p)
+gone (No wanted) may t p on = Err (why t wanted, p)
 gone (Go ss vs needs) may t p on = if may needs then on ss vs else Err (why_not needs, p)
 
 -- at the text's end, which stands at z
@@ -509,7 +479,7 @@ moved Moved.Plain ss vs = Go ss vs []
 moved (Moved.Begins k) ss vs = Go ss vs (part k ∷ [])
 moved (Moved.Argument i k) ss vs = Go ss vs (argument i ∷ part k ∷ [])
 moved Moved.Operand ss vs = Go ss vs (variable_operand ∷ [])
-moved (Moved.Stuck integer) ss vs = No integer
+moved (Moved.Stuck wanted) ss vs = No wanted
 
 -- a run as an answer
 

@@ -3,18 +3,23 @@
 //
 // `specs/Machine` defines the machine. That it reads exactly what the grammar derives is proved in `proofs/`.
 //
+// Promises: the grammar derives each list of terminals as one module or one call at most, and refuses it for one reason at one
+// place.
+//
+// May touch: memory alone, for the values that it holds.
+//
 // Files:
 //   symbol.rt   symbols
 //   value.rt    values
 //   moved.rt    what a terminal did
-//   law.rt      what the machine proves of the grammar
+//   laws.rt     what the machine proves of the grammar
 #![tactic(auto)]
 
-pub mod law;
+pub mod laws;
 pub mod moved;
 pub mod symbol;
 pub mod value;
 
-pub use moved::Moved;
+pub use moved::{Moved, Wanted};
 pub use symbol::{Closer, Element, Maker, Part, Symbol, Term};
 pub use value::Value;

@@ -1,5 +1,14 @@
 // What a terminal did to the parser.
 
+/// What the symbols want that are to come.
+#[derive(Clone, Copy, Debug, PartialEq, Eq)]
+pub enum Wanted {
+    /// Something that may be an integer.
+    Integer,
+    /// Something that is no integer.
+    Other,
+}
+
 /// What a terminal did.
 #[derive(Clone, Copy, Debug)]
 pub enum Moved {
@@ -11,6 +20,6 @@ pub enum Moved {
     Argument(u32, u32),
     /// It is a variable as the module or the name of a `call`.
     Operand,
-    /// It wasn't taken; and whether an integer would be.
-    Stuck(bool),
+    /// It wasn't taken, and what is wanted in its place.
+    Stuck(Wanted),
 }

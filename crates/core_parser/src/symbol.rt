@@ -116,7 +116,7 @@ pub enum Maker {
 /// What is to come. Numbers are levels.
 #[derive(Clone, Copy, Debug)]
 pub enum Symbol {
-    /// This word or sign.
+    /// This keyword or sign.
     Wants(Mark),
     /// A part, annotated or not.
     Annotated(Part),

@@ -117,11 +117,11 @@ pub alias_is : (x : Var) (part : List Piece) (t : List ℕ) → followed_by (ali
 unfolding alias_pieces
 alias_is x part t = refl
 
-pub spaced_is : (w : List ℕ) (part : List Piece) (t : List ℕ) → followed_by (spaced_pieces w part) t ≡ followed_by part (put Piece.Space (put (Piece.Word w) t))
+pub spaced_is : (w : List ℕ) (part : List Piece) (t : List ℕ) → followed_by (spaced_pieces w part) t ≡ followed_by part (put Piece.Space (put (Piece.Keyword w) t))
 unfolding spaced_pieces
 spaced_is w part t = refl
 
-pub block_is : (d : ℕ) (w : List ℕ) (part : List Piece) (t : List ℕ) → followed_by (block_pieces d w part) t ≡ followed_by part (put (Piece.Line (deeper d)) (put (Piece.Word w) t))
+pub block_is : (d : ℕ) (w : List ℕ) (part : List Piece) (t : List ℕ) → followed_by (block_pieces d w part) t ≡ followed_by part (put (Piece.Line (deeper d)) (put (Piece.Keyword w) t))
 unfolding block_pieces
 block_is d w part t = refl
 
@@ -129,15 +129,15 @@ pub next_is : (d : ℕ) (part : List Piece) (t : List ℕ) → followed_by (next
 unfolding next_pieces
 next_is d part t = refl
 
-pub let_is : (d : ℕ) (xs : List Var) (values : List Piece) (t : List ℕ) → followed_by (let_pieces d xs values) t ≡ followed_by values (followed_by (equals d) (followed_by (binders xs) (put Piece.Space (put (Piece.Word (codes "let")) t))))
+pub let_is : (d : ℕ) (xs : List Var) (values : List Piece) (t : List ℕ) → followed_by (let_pieces d xs values) t ≡ followed_by values (followed_by (equals d) (followed_by (binders xs) (put Piece.Space (put (Piece.Keyword (codes "let")) t))))
 unfolding let_pieces
 let_is d xs values t = simp followed_append
 
-pub in_is : (d : ℕ) (body : List Piece) (t : List ℕ) → followed_by (in_pieces d body) t ≡ followed_by body (put (Piece.Line d) (put (Piece.Word (codes "in")) (put (Piece.Line d) t)))
+pub in_is : (d : ℕ) (body : List Piece) (t : List ℕ) → followed_by (in_pieces d body) t ≡ followed_by body (put (Piece.Line d) (put (Piece.Keyword (codes "in")) (put (Piece.Line d) t)))
 unfolding in_pieces
 in_is d body t = refl
 
-pub of_is : (d : ℕ) (clauses : List Piece) (t : List ℕ) → followed_by (of_pieces d clauses) t ≡ put (Piece.Word (codes "end")) (put (Piece.Line d) (followed_by clauses (put (Piece.Word (codes "of")) (put Piece.Space t))))
+pub of_is : (d : ℕ) (clauses : List Piece) (t : List ℕ) → followed_by (of_pieces d clauses) t ≡ put (Piece.Keyword (codes "end")) (put (Piece.Line d) (followed_by clauses (put (Piece.Keyword (codes "of")) (put Piece.Space t))))
 unfolding of_pieces
 of_is d clauses t = simp followed_append
 
@@ -148,7 +148,7 @@ unfolding clause_pieces
 clause_is d patterns guard body t = simp followed_append
 
 pub fun_is : (d : ℕ) (xs : List Var) (body : List Piece) (t : List ℕ)
-    → followed_by (fun_pieces d xs body) t ≡ followed_by body (followed_by (arrow d) (put (Piece.Sign (codes ")")) (followed_by (opened (codes "(") (map variable_pieces xs)) (put Piece.Space (put (Piece.Word (codes "fun")) t)))))
+    → followed_by (fun_pieces d xs body) t ≡ followed_by body (followed_by (arrow d) (put (Piece.Sign (codes ")")) (followed_by (opened (codes "(") (map variable_pieces xs)) (put Piece.Space (put (Piece.Keyword (codes "fun")) t)))))
 unfolding fun_pieces
 fun_is d xs body t = simp followed_append
 
@@ -157,17 +157,17 @@ unfolding definition_pieces
 definition_is d f function t = simp followed_append
 
 pub call_is : (of name : List ℕ) (arguments : List (List Piece)) (t : List ℕ)
-    → followed_by (call_pieces of name arguments) t ≡ put (Piece.Sign (codes ")")) (followed_by (opened (codes "(") arguments) (put (Piece.Atom name) (put (Piece.Sign (codes ":")) (put (Piece.Atom of) (put Piece.Space (put (Piece.Word (codes "call")) t))))))
+    → followed_by (call_pieces of name arguments) t ≡ put (Piece.Sign (codes ")")) (followed_by (opened (codes "(") arguments) (put (Piece.Atom name) (put (Piece.Sign (codes ":")) (put (Piece.Atom of) (put Piece.Space (put (Piece.Keyword (codes "call")) t))))))
 unfolding call_pieces
 call_is of name arguments t = simp followed_append
 
 pub primop_is : (name : List ℕ) (arguments : List (List Piece)) (t : List ℕ)
-    → followed_by (primop_pieces name arguments) t ≡ put (Piece.Sign (codes ")")) (followed_by (opened (codes "(") arguments) (put (Piece.Atom name) (put Piece.Space (put (Piece.Word (codes "primop")) t))))
+    → followed_by (primop_pieces name arguments) t ≡ put (Piece.Sign (codes ")")) (followed_by (opened (codes "(") arguments) (put (Piece.Atom name) (put Piece.Space (put (Piece.Keyword (codes "primop")) t))))
 unfolding primop_pieces
 primop_is name arguments t = simp followed_append
 
 pub branch_is : (d : ℕ) (w : List ℕ) (xs : List Var) (body : List Piece) (t : List ℕ)
-    → followed_by (branch_pieces d w xs body) t ≡ followed_by body (followed_by (arrow d) (followed_by (binders xs) (put Piece.Space (put (Piece.Word w) (put (Piece.Line d) t)))))
+    → followed_by (branch_pieces d w xs body) t ≡ followed_by body (followed_by (arrow d) (followed_by (binders xs) (put Piece.Space (put (Piece.Keyword w) (put (Piece.Line d) t)))))
 unfolding branch_pieces
 branch_is d w xs body t = simp followed_append
 
@@ -178,7 +178,7 @@ pub ruleset prints = (levels, parts, tail_nil, tail_other, spaced_is, block_is, 
 -- ---- modules
 
 pub head_is : (name : List ℕ) (exports : List (FunName × Place)) (t : List ℕ)
-    → followed_by (head_pieces name exports) t ≡ put (Piece.Sign (codes "]")) (followed_by (opened (codes "[") (map export_pieces exports)) (put Piece.Space (put (Piece.Atom name) (put Piece.Space (put (Piece.Word (codes "module")) t)))))
+    → followed_by (head_pieces name exports) t ≡ put (Piece.Sign (codes "]")) (followed_by (opened (codes "[") (map export_pieces exports)) (put Piece.Space (put (Piece.Atom name) (put Piece.Space (put (Piece.Keyword (codes "module")) t)))))
 unfolding head_pieces
 head_is name exports t = simp followed_append
 
@@ -187,11 +187,11 @@ unfolding attribute_pieces
 attribute_is a t = refl
 
 pub attributes_is : (attributes : List (List ℕ × Constant)) (t : List ℕ)
-    → followed_by (attributes_pieces attributes) t ≡ put (Piece.Sign (codes "]")) (followed_by (opened (codes "[") (map attribute_pieces attributes)) (put Piece.Space (put (Piece.Word (codes "attributes")) (put (Piece.Line (deeper 0)) t))))
+    → followed_by (attributes_pieces attributes) t ≡ put (Piece.Sign (codes "]")) (followed_by (opened (codes "[") (map attribute_pieces attributes)) (put Piece.Space (put (Piece.Keyword (codes "attributes")) (put (Piece.Line (deeper 0)) t))))
 unfolding attributes_pieces
 attributes_is attributes t = simp followed_append
 
-pub printed_is : (m : Module) → printed m ≡ put (Piece.Line 0) (put (Piece.Word (codes "end")) (put (Piece.Line 0) (followed_by (definitions_pieces 0 m.definitions) (followed_by (attributes_pieces m.attributes) (followed_by (head_pieces m.name m.exports) [])))))
+pub printed_is : (m : Module) → printed m ≡ put (Piece.Line 0) (put (Piece.Keyword (codes "end")) (put (Piece.Line 0) (followed_by (definitions_pieces 0 m.definitions) (followed_by (attributes_pieces m.attributes) (followed_by (head_pieces m.name m.exports) [])))))
 printed_is m = sym (followed_is (module_pieces m) []) ∙ simp followed_append
 
 pub ruleset module_prints = (parts, head_is, attribute_is, attributes_is, printed_is)

@@ -2,7 +2,7 @@
 --
 -- A module is printed as a list of pieces: tokens, constants, spaces and ends of lines. Reading its text gives the same pieces
 -- back, since no token goes on into the piece behind it:
---   behind a word stands a space or a line, or behind `end` a sign;
+--   behind a keyword stands a space or a line, or behind `end` a sign;
 --   behind a variable or an integer stands a sign, a space or a line, and no sign here begins with `.`, `#` or `-` but the
 --   arrow, which has a space before it;
 --   an atom ends at its closing quote, and no atom stands directly behind another;
@@ -19,7 +19,7 @@ use Rattle.hipe_terms.specs.Terms.{Term, term_of}
 use Rattle.core_ast.specs.declared.pattern.Var.{Var}
 use Rattle.core_print.specs.declared.piece.TheConstants.{INDENTATION_LIMIT}
 use Rattle.core_ast.specs.declared.tree.FunName.{FunName}
-use Rattle.core_ast.specs.Trees.{Pattern, Patterns, no_pattern, and_pattern, Expression, Expressions, no_expression, and_expression, Clauses, no_clause, and_clause, Definitions, no_definition, and_definition, Module}
+use Rattle.core_ast.specs.Trees.{Pattern, Patterns, no_pattern, and_pattern, Expression, Expressions, no_expression, and_expression, Clauses, no_clause, and_clause, Definitions, no_definition, and_definition, Function, Module}
 
 -- ---- pieces and their text
 
@@ -29,7 +29,7 @@ pub data Piece : Type 0 where
   Variable : List ℕ → Piece
   Integer : ℤ → Piece
   Constant : Term → Piece
-  Word : List ℕ → Piece
+  Keyword : List ℕ → Piece
   Sign : List ℕ → Piece
   Space : Piece
   Line : ℕ → Piece
@@ -43,7 +43,7 @@ spelled (Piece.Atom a) = quoted a
 spelled (Piece.Variable x) = x
 spelled (Piece.Integer n) = signed_decimal n
 spelled (Piece.Constant t) = shown [] t
-spelled (Piece.Word w) = w
+spelled (Piece.Keyword w) = w
 spelled (Piece.Sign s) = s
 spelled Piece.Space = codes " "
 spelled (Piece.Line d) = 10 ∷ indentation d
@@ -62,8 +62,8 @@ variable x = Piece.Variable x ∷ []
 abbrev pub integer : ℤ → List Piece
 integer n = Piece.Integer n ∷ []
 
-abbrev pub word : List ℕ → List Piece
-word w = Piece.Word w ∷ []
+abbrev pub keyword : List ℕ → List Piece
+keyword w = Piece.Keyword w ∷ []
 
 abbrev pub sign : List ℕ → List Piece
 sign s = Piece.Sign s ∷ []
@@ -132,12 +132,12 @@ binders xs = enclosed (codes "<") (map variable_pieces xs) (codes ">")
 
 -- apply F, catch E, case E and when E
 unfoldable pub spaced_pieces : List ℕ → List Piece → List Piece
-spaced_pieces w part = word w ++ space ++ part
+spaced_pieces w part = keyword w ++ space ++ part
 
 -- try, do
 --   E
 unfoldable pub block_pieces : ℕ → List ℕ → List Piece → List Piece
-block_pieces d w part = word w ++ line (deeper d) ++ part
+block_pieces d w part = keyword w ++ line (deeper d) ++ part
 
 -- the second expression of a `do`, on a line of its own
 unfoldable pub next_pieces : ℕ → List Piece → List Piece
@@ -146,16 +146,16 @@ next_pieces d part = line d ++ part
 -- let <X,Y> =
 --   E
 unfoldable pub let_pieces : ℕ → List Var → List Piece → List Piece
-let_pieces d xs values = word (codes "let") ++ space ++ binders xs ++ equals d ++ values
+let_pieces d xs values = keyword (codes "let") ++ space ++ binders xs ++ equals d ++ values
 
 -- in
 -- E
 unfoldable pub in_pieces : ℕ → List Piece → List Piece
-in_pieces d body = line d ++ word (codes "in") ++ line d ++ body
+in_pieces d body = line d ++ keyword (codes "in") ++ line d ++ body
 
 -- of, clauses and end
 unfoldable pub of_pieces : ℕ → List Piece → List Piece
-of_pieces d clauses = space ++ word (codes "of") ++ clauses ++ line d ++ word (codes "end")
+of_pieces d clauses = space ++ keyword (codes "of") ++ clauses ++ line d ++ keyword (codes "end")
 
 -- <P,Q> when G ->
 --   E
@@ -165,7 +165,7 @@ clause_pieces d patterns guard body = line d ++ enclosed (codes "<") patterns (c
 -- fun (X,Y) ->
 --   E
 unfoldable pub fun_pieces : ℕ → List Var → List Piece → List Piece
-fun_pieces d xs body = word (codes "fun") ++ space ++ enclosed (codes "(") (map variable_pieces xs) (codes ")") ++ arrow d ++ body
+fun_pieces d xs body = keyword (codes "fun") ++ space ++ enclosed (codes "(") (map variable_pieces xs) (codes ")") ++ arrow d ++ body
 
 -- 'f'/1 =
 --   fun ..
@@ -174,17 +174,17 @@ definition_pieces d f function = line d ++ name_pieces f ++ equals d ++ function
 
 -- call 'm':'f'(A,B)
 unfoldable pub call_pieces : List ℕ → List ℕ → List (List Piece) → List Piece
-call_pieces of name arguments = word (codes "call") ++ space ++ atom of ++ sign (codes ":") ++ atom name ++ enclosed (codes "(") arguments (codes ")")
+call_pieces of name arguments = keyword (codes "call") ++ space ++ atom of ++ sign (codes ":") ++ atom name ++ enclosed (codes "(") arguments (codes ")")
 
 -- primop 'f'(A,B)
 unfoldable pub primop_pieces : List ℕ → List (List Piece) → List Piece
-primop_pieces name arguments = word (codes "primop") ++ space ++ atom name ++ enclosed (codes "(") arguments (codes ")")
+primop_pieces name arguments = keyword (codes "primop") ++ space ++ atom name ++ enclosed (codes "(") arguments (codes ")")
 
 -- of <X,Y> ->
 --   E
 -- and the same with `catch`
 unfoldable pub branch_pieces : ℕ → List ℕ → List Var → List Piece → List Piece
-branch_pieces d w xs body = line d ++ word w ++ space ++ binders xs ++ arrow d ++ body
+branch_pieces d w xs body = line d ++ keyword w ++ space ++ binders xs ++ arrow d ++ body
 
 -- ---- patterns and expressions; d is the level of the line on which they begin
 
@@ -223,7 +223,7 @@ abbrev mutual
   pieces d (Expression.Let p xs values body) = let_pieces d xs (pieces (deeper d) values) ++ in_pieces d (pieces d body)
   pieces d (Expression.Case p values cs) = spaced_pieces (codes "case") (pieces d values) ++ of_pieces d (clauses_pieces (deeper d) cs)
   pieces d (Expression.Lambda p q xs body) = fun_pieces d xs (pieces (deeper d) body)
-  pieces d (Expression.Letrec p ds body) = word (codes "letrec") ++ definitions_pieces (deeper d) ds ++ in_pieces d (pieces d body)
+  pieces d (Expression.Letrec p ds body) = keyword (codes "letrec") ++ definitions_pieces (deeper d) ds ++ in_pieces d (pieces d body)
   pieces d (Expression.Apply p f args) = spaced_pieces (codes "apply") (pieces d f) ++ enclosed (codes "(") (each d args) (codes ")")
   pieces d (Expression.Call p m f args) = call_pieces m f (each d args)
   pieces d (Expression.Primop p f args) = primop_pieces f (each d args)
@@ -243,6 +243,10 @@ abbrev mutual
   definitions_pieces d no_definition = []
   definitions_pieces d (and_definition p f q xs body ds) = definition_pieces d f (fun_pieces (deeper d) xs (pieces (deeper (deeper d)) body)) ++ definitions_pieces d ds
 
+-- a fun with its parameters and body
+abbrev pub function_pieces : ℕ → Function → List Piece
+function_pieces d f = fun_pieces d f.parameters (pieces (deeper d) f.body)
+
 -- ---- modules
 
 abbrev pub export_pieces : FunName × Place → List Piece
@@ -254,15 +258,15 @@ attribute_pieces a = atom a.0 ++ space ++ sign (codes "=") ++ space ++ (Piece.Co
 
 -- module 'm' ['f'/1,..]
 unfoldable pub head_pieces : List ℕ → List (FunName × Place) → List Piece
-head_pieces name exports = word (codes "module") ++ space ++ atom name ++ space ++ enclosed (codes "[") (map export_pieces exports) (codes "]")
+head_pieces name exports = keyword (codes "module") ++ space ++ atom name ++ space ++ enclosed (codes "[") (map export_pieces exports) (codes "]")
 
 --   attributes ['a' = constant,..]
 unfoldable pub attributes_pieces : List (List ℕ × RustConstant.Constant) → List Piece
-attributes_pieces attributes = line (deeper 0) ++ word (codes "attributes") ++ space ++ enclosed (codes "[") (map attribute_pieces attributes) (codes "]")
+attributes_pieces attributes = line (deeper 0) ++ keyword (codes "attributes") ++ space ++ enclosed (codes "[") (map attribute_pieces attributes) (codes "]")
 
 -- the definitions, `end`, and the end of the last line
 abbrev pub module_pieces : Module → List Piece
-module_pieces m = head_pieces m.name m.exports ++ attributes_pieces m.attributes ++ definitions_pieces 0 m.definitions ++ line 0 ++ word (codes "end") ++ line 0
+module_pieces m = head_pieces m.name m.exports ++ attributes_pieces m.attributes ++ definitions_pieces 0 m.definitions ++ line 0 ++ keyword (codes "end") ++ line 0
 
 -- the text of a module
 abbrev pub printed : Module → List ℕ

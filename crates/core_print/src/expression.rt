@@ -3,15 +3,16 @@
 
 ghost use Rattle.std.specs.Prelude.{◌≡◌, ◌∷◌, [], map, string_bytes, OnOk};
 ghost use Rattle.core_ast.specs.Trees.{expression_of, expressions, clause_of, clauses, function_of, definition_of, definitions};
-ghost use Rattle.core_print.specs.Printed.{Piece, followed_by, deeper, opened, tail_pieces, spaced_pieces, block_pieces, next_pieces, let_pieces, in_pieces, of_pieces, fun_pieces, call_pieces, primop_pieces, branch_pieces, is_nil, pieces, each, clauses_pieces, definitions_pieces};
+ghost use Rattle.core_print.specs.Printed.{Piece, followed_by, deeper, opened, tail_pieces, spaced_pieces, block_pieces, next_pieces, let_pieces, in_pieces, of_pieces, function_pieces, call_pieces, primop_pieces, branch_pieces, is_nil, pieces, each, clauses_pieces, definitions_pieces};
 
 use crate::pattern::{binders, patterns, variables};
 use crate::piece::{
-    arrow, atom, comma, deeper, equals, function_name, integer, line, nil, sign, space, variable,
-    word,
+    arrow, atom, comma, deeper, equals, function_name, integer, keyword, line, nil, sign, space,
+    variable,
 };
 use core_ast::{Clause, Expr, Fun, FunDef, Node, Var};
-use hipe_terms::{Atom, Memory};
+use hipe_base::Memory;
+use hipe_terms::Atom;
 use std::alloc::Global;
 
 #[cycle(expression)]
@@ -47,7 +48,7 @@ fn expression(alloc: Global, out: &mut String, level: u8, e: &Expr) -> Result<()
         }
         Node::Lambda(f) => function(alloc, out, level, f),
         Node::Letrec(defs, body) => {
-            word(out, "letrec")?;
+            keyword(out, "letrec")?;
             definitions(alloc, out, deeper(level), defs.as_slice())?;
             in_body(alloc, out, level, body.get())
         }
@@ -112,24 +113,24 @@ fn is_nil(e: &Expr) -> bool
     matches!(&e.node, Node::Nil)
 }
 
-// A word and an expression on one line.
+// A keyword and an expression on one line.
 #[cycle(expression)]
 #[tactic(auto, using(crate::proofs::Printing::prints))]
 fn spaced(alloc: Global, out: &mut String, level: u8, first: &str, e: &Expr) -> Result<(), Memory>
     ensures { OnOk result (string_bytes out.new ≡ followed_by (spaced_pieces first.now (pieces level (expression_of e.now))) (string_bytes out.old)) }
 {
-    word(out, first)?;
+    keyword(out, first)?;
     space(out)?;
     expression(alloc, out, level, e)
 }
 
-// A word, and an expression on a line of its own.
+// A keyword, and an expression on a line of its own.
 #[cycle(expression)]
 #[tactic(auto, using(crate::proofs::Printing::prints))]
 fn block(alloc: Global, out: &mut String, level: u8, first: &str, e: &Expr) -> Result<(), Memory>
     ensures { OnOk result (string_bytes out.new ≡ followed_by (block_pieces level first.now (pieces (deeper level) (expression_of e.now))) (string_bytes out.old)) }
 {
-    word(out, first)?;
+    keyword(out, first)?;
     line(out, deeper(level))?;
     expression(alloc, out, deeper(level), e)
 }
@@ -156,7 +157,7 @@ fn binding(
 ) -> Result<(), Memory>
     ensures { OnOk result (string_bytes out.new ≡ followed_by (let_pieces level xs.now (pieces (deeper level) (expression_of values.now))) (string_bytes out.old)) }
 {
-    word(out, "let")?;
+    keyword(out, "let")?;
     space(out)?;
     binders(out, xs)?;
     equals(out, level)?;
@@ -170,7 +171,7 @@ fn in_body(alloc: Global, out: &mut String, level: u8, body: &Expr) -> Result<()
     ensures { OnOk result (string_bytes out.new ≡ followed_by (in_pieces level (pieces level (expression_of body.now))) (string_bytes out.old)) }
 {
     line(out, level)?;
-    word(out, "in")?;
+    keyword(out, "in")?;
     line(out, level)?;
     expression(alloc, out, level, body)
 }
@@ -182,10 +183,10 @@ fn of_clauses(alloc: Global, out: &mut String, level: u8, list: &[Clause]) -> Re
     ensures { OnOk result (string_bytes out.new ≡ followed_by (of_pieces level (clauses_pieces (deeper level) (clauses (map clause_of list.now)))) (string_bytes out.old)) }
 {
     space(out)?;
-    word(out, "of")?;
+    keyword(out, "of")?;
     clauses(alloc, out, deeper(level), list)?;
     line(out, level)?;
-    word(out, "end")
+    keyword(out, "end")
 }
 
 #[cycle(expression)]
@@ -216,9 +217,9 @@ fn clause(alloc: Global, out: &mut String, level: u8, c: &Clause) -> Result<(), 
 #[cycle(expression)]
 #[tactic(auto, using(crate::proofs::Printing::prints))]
 fn function(alloc: Global, out: &mut String, level: u8, f: &Fun) -> Result<(), Memory>
-    ensures { OnOk result (string_bytes out.new ≡ followed_by (fun_pieces level (function_of f.now).parameters (pieces (deeper level) (function_of f.now).body)) (string_bytes out.old)) }
+    ensures { OnOk result (string_bytes out.new ≡ followed_by (function_pieces level (function_of f.now)) (string_bytes out.old)) }
 {
-    word(out, "fun")?;
+    keyword(out, "fun")?;
     space(out)?;
     variables(out, "(", f.params.as_slice())?;
     sign(out, ")")?;
@@ -266,7 +267,7 @@ fn call(
 ) -> Result<(), Memory>
     ensures { OnOk result (string_bytes out.new ≡ followed_by (call_pieces of.now f.now (each level (expressions (map expression_of args.now)))) (string_bytes out.old)) }
 {
-    word(out, "call")?;
+    keyword(out, "call")?;
     space(out)?;
     atom(alloc, out, of)?;
     sign(out, ":")?;
@@ -281,14 +282,14 @@ fn call(
 fn primop(alloc: Global, out: &mut String, level: u8, f: &Atom, args: &[Expr]) -> Result<(), Memory>
     ensures { OnOk result (string_bytes out.new ≡ followed_by (primop_pieces f.now (each level (expressions (map expression_of args.now)))) (string_bytes out.old)) }
 {
-    word(out, "primop")?;
+    keyword(out, "primop")?;
     space(out)?;
     atom(alloc, out, f)?;
     expressions(alloc, out, level, "(", args)?;
     sign(out, ")")
 }
 
-// A branch of a `try`: its word, its variables and its body.
+// A branch of a `try`: its keyword, its variables and its body.
 #[cycle(expression)]
 #[tactic(auto, using(crate::proofs::Printing::prints))]
 fn branch(
@@ -302,7 +303,7 @@ fn branch(
     ensures { OnOk result (string_bytes out.new ≡ followed_by (branch_pieces level first.now xs.now (pieces (deeper level) (expression_of body.now))) (string_bytes out.old)) }
 {
     line(out, level)?;
-    word(out, first)?;
+    keyword(out, first)?;
     space(out)?;
     binders(out, xs)?;
     arrow(out, level)?;

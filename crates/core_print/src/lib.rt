@@ -1,5 +1,9 @@
-// The text of a Core Erlang module: readable, with each block on lines of its own. It is written from the tree alone, and
-// the text is that of `specs/Printed.antt`.
+// The text of a Core Erlang module: readable, with each block on lines of its own.
+//
+// Promises: the text that `print_module` writes of a module that is well formed is that of specs/Printed.antt, which goes by the tree
+// alone: a list of tokens, spaces and lines.
+//
+// May touch: memory alone, for the text.
 //
 // Files:
 //   piece.rt        what a text is made of: tokens, spaces and lines

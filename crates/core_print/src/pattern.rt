@@ -6,7 +6,7 @@ ghost use Rattle.core_print.specs.Printed.{followed_by, opened, binders, tail_pi
 
 use crate::piece::{atom, comma, integer, nil, sign, space, variable};
 use core_ast::{PatNode, Pattern, Var};
-use hipe_terms::Memory;
+use hipe_base::Memory;
 use std::alloc::Global;
 
 // What opens some variables, and the variables with commas between them.

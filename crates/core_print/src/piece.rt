@@ -6,7 +6,8 @@ ghost use Rattle.hipe_terms.specs.Terms.{term_of};
 ghost use Rattle.core_print.specs.Printed.{Piece, put, followed_by, deeper, comma_before, nil_pieces, name_pieces, arrow, equals};
 
 use core_ast::{FunName, VariableName};
-use hipe_terms::{Atom, Constant, Memory, show_atom, show_onto};
+use hipe_base::Memory;
+use hipe_terms::{Atom, Constant, show_atom, show_onto};
 use std::alloc::Global;
 
 /// Lines are indented by at most so many levels, so that the text of a deep tree doesn't grow with the square of its depth.
@@ -26,10 +27,10 @@ pub(crate) fn deeper(level: u8) -> u8
 }
 
 #[tactic(auto, unfolding(crate::specs::Printed::put))]
-pub(crate) fn word(out: &mut String, word: &str) -> Result<(), Memory>
-    ensures { OnOk result (string_bytes out.new ≡ put (Piece.Word word.now) (string_bytes out.old)) }
+pub(crate) fn keyword(out: &mut String, keyword: &str) -> Result<(), Memory>
+    ensures { OnOk result (string_bytes out.new ≡ put (Piece.Keyword keyword.now) (string_bytes out.old)) }
 {
-    out.push_str(word)
+    out.push_str(keyword)
 }
 
 #[tactic(auto, unfolding(crate::specs::Printed::put))]

@@ -7,9 +7,10 @@ ghost use Rattle.core_print.specs.Printed.{followed_by, opened, export_pieces, a
 ghost use Rattle.core_ast.specs.WellFormed.{IsWellFormed};
 
 use crate::expression::definitions;
-use crate::piece::{atom, comma, constant, deeper, function_name, line, sign, space, word};
+use crate::piece::{atom, comma, constant, deeper, function_name, keyword, line, sign, space};
 use core_ast::{FunName, Module};
-use hipe_terms::{Atom, Constant, Memory, Place};
+use hipe_base::Memory;
+use hipe_terms::{Atom, Constant, Place};
 use std::alloc::Global;
 
 /// The text of a module in UTF-8, of the grammar of Core Erlang 1.0.3: each part on a line of its own where it begins a
@@ -26,7 +27,7 @@ pub fn print_module(alloc: Global, m: &Module) -> Result<Vec<u8>, Memory>
     attributes(alloc, &mut out, m.attributes.as_slice())?;
     definitions(alloc, &mut out, 0, m.defs.as_slice())?;
     line(&mut out, 0)?;
-    word(&mut out, "end")?;
+    keyword(&mut out, "end")?;
     line(&mut out, 0)?;
     Ok(out.into_bytes())
 }
@@ -41,7 +42,7 @@ fn head(
 ) -> Result<(), Memory>
     ensures { OnOk result (string_bytes out.new ≡ followed_by (head_pieces name.now exports.now) (string_bytes out.old)) }
 {
-    word(out, "module")?;
+    keyword(out, "module")?;
     space(out)?;
     atom(alloc, out, name)?;
     space(out)?;
@@ -69,7 +70,7 @@ fn attributes(alloc: Global, out: &mut String, list: &[(Atom, Constant)]) -> Res
     ensures { OnOk result (string_bytes out.new ≡ followed_by (attributes_pieces list.now) (string_bytes out.old)) }
 {
     line(out, deeper(0))?;
-    word(out, "attributes")?;
+    keyword(out, "attributes")?;
     space(out)?;
     listed(alloc, out, list)?;
     sign(out, "]")

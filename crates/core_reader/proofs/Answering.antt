@@ -11,7 +11,7 @@ use Rattle.core_grammar.specs.Language.{limit}
 use Rattle.core_grammar.specs.Language as G
 use Rattle.core_parser.specs.Machine.{Answer, run, module_start, call_start, module_read, call_read}
 use Rattle.core_parser.proofs.Answering.{reads_modules, reads_calls}
-use Rattle.core_reader.specs.declared.limit.TheConstants.{LEVEL_LIMIT}
+use Rattle.hipe_base.specs.declared.limits.TheConstants.{LEVEL_LIMIT}
 use Rattle.core_reader.specs.declared.refusal.ReadRefusal.{ReadRefusal}
 use Rattle.core_reader.specs.declared.refusal.CallRefusal.{CallRefusal}
 use Rattle.core_reader.specs.Terminals.{terminals_of}

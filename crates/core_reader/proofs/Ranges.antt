@@ -20,13 +20,14 @@ use Rattle.core_ast.specs.declared.tree.Module.{Module}
 use Rattle.core_ast.specs.Trees.{module_of}
 use Rattle.core_ast.specs.WellFormed.{IsWellFormed}
 use Rattle.core_grammar.specs.declared.terminal.Kind.{Kind}
+use Rattle.core_grammar.specs.declared.terminal.Mark.{Mark}
 use Rattle.core_grammar.specs.Language.{limit}
 use Rattle.core_grammar.specs.Ranges.{kind_in_range, code_points_in_range, terminals_in_range}
 use Rattle.core_grammar.proofs.WellFormed.{derived_are_well_formed, derived_arguments_are_constants}
 use Rattle.core_reader.specs.declared.refusal.ReadRefusal.{ReadRefusal}
 use Rattle.core_reader.specs.declared.refusal.CallRefusal.{CallRefusal}
-use Rattle.core_reader.specs.Terminals.{kind_of, number_of, or_zero, or_nul, terminals_of}
-use Rattle.core_reader.specs.declared.limit.TheConstants.{LEVEL_LIMIT}
+use Rattle.core_reader.specs.Terminals.{kind_of, number_of, or_zero, or_nul, marked, keyword_of, sign_of, terminals_of}
+use Rattle.hipe_base.specs.declared.limits.TheConstants.{LEVEL_LIMIT}
 use Rattle.core_reader.specs.Language.{Reads, ReadsCall}
 use Rattle.core_reader.specs.Reading.{Found, FoundCall}
 use Rattle.core_reader.specs.Reading as R
@@ -85,6 +86,10 @@ points_in_range (v ∷ vs) h =
 
 -- ---- terminals
 
+marked_fits : (o : Option Mark) → kind_in_range (marked o) ≡ true
+marked_fits None = refl
+marked_fits (Some m) = refl
+
 kind_fits : (sort : Sort) (cs : List ℕ) → HasValue sort cs → kind_in_range (kind_of sort cs) ≡ true
 kind_fits Sort.Atom cs h = refl
 kind_fits Sort.Variable cs h = refl
@@ -92,8 +97,8 @@ kind_fits Sort.Integer cs h = integer_in_range cs h
 kind_fits Sort.Float cs h = refl
 kind_fits Sort.Character cs h = character_in_range cs h
 kind_fits Sort.Text cs h = points_in_range (code_points_of cs) h.1
-kind_fits Sort.Word cs h = refl
-kind_fits Sort.Sign cs h = refl
+kind_fits Sort.Word cs h = marked_fits (keyword_of cs)
+kind_fits Sort.Sign cs h = marked_fits (sign_of cs)
 
 terminals_fit : (s : List ℕ) (ts : List Token) → All (StandsIn s) ts → terminals_in_range (terminals_of s ts) ≡ true
 terminals_fit s [] h = refl

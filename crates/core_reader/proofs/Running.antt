@@ -9,8 +9,8 @@ use Rattle.core_grammar.specs.declared.terminal.Terminal.{Terminal}
 use Rattle.core_grammar.specs.Language.{limit}
 use Rattle.core_parser.specs.Values.{Values}
 use Rattle.core_parser.specs.Machine.{Symbols, Answer, run}
-use Rattle.parser_steps.specs.declared.refusal.Refusal.{Refusal}
-use Rattle.parser_steps.specs.Runs.{Stepped}
+use Rattle.core_parser_steps.specs.declared.refusal.Refusal.{Refusal}
+use Rattle.core_parser_steps.specs.Runs.{Stepped}
 use Rattle.core_reader.specs.Terminals.{terminal_of, terminals_of}
 use Rattle.core_reader.specs.Reading.{AnswersRun}
 

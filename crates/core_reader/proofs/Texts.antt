@@ -5,7 +5,7 @@ use Rattle.std.specs.Str.{chars, all_scalars, IsUtf8, IsAscii}
 use Rattle.std.proofs.lemmas.Str.{chars-encodes, IsUtf8-from_ascii}
 use Rattle.std.proofs.lemmas.List.{append-nil}
 use Rattle.std.proofs.lemmas.Str.Ascii.{IsAscii-nil, IsAscii-cons}
-use Rattle.core_text.specs.Bytes.{is_upper, is_word_byte}
+use Rattle.core_text.specs.Bytes.{is_upper, is_name_byte}
 use Rattle.core_token.specs.declared.token.Sort.{Sort}
 use Rattle.core_token.specs.declared.token.Token.{Token}
 use Rattle.core_token.specs.Spelling.{Spells, variable}
@@ -17,19 +17,19 @@ use Rattle.core_reader.specs.Terminals.{HasName}
 pub chars_of : (bs cs : List ℕ) → all_scalars cs ≡ true → bs ++ [] ≡ encode_utf8_all cs → chars bs ≡ cs
 chars_of bs cs h e = ap chars (sym (append-nil bs) ∙ e) ∙ chars-encodes cs h
 
-word_byte : (c : ℕ) → is_word_byte c ≡ true → c < 128
-word_byte c h = grind arith
+name_byte : (c : ℕ) → is_name_byte c ≡ true → c < 128
+name_byte c h = grind arith
 
-word_bytes : (cs : List ℕ) → AllByRecursion (λ c. is_word_byte c ≡ true) cs → IsAscii cs
-word_bytes [] h = IsAscii-nil
-word_bytes (c ∷ cs) h = IsAscii-cons c cs (word_byte c h.0) (word_bytes cs h.1)
+name_bytes : (cs : List ℕ) → AllByRecursion (λ c. is_name_byte c ≡ true) cs → IsAscii cs
+name_bytes [] h = IsAscii-nil
+name_bytes (c ∷ cs) h = IsAscii-cons c cs (name_byte c h.0) (name_bytes cs h.1)
 
 first_byte : (c : ℕ) → (is_upper c || c == 95) ≡ true → c < 128
 first_byte c h = grind arith
 
 pub variable_utf8 : (cs us : List ℕ) → Spells Sort.Variable cs us → IsUtf8 cs
 variable_utf8 [] us x' = elim x' [ ]
-variable_utf8 (c ∷ cs) us (variable h hs) = IsUtf8-from_ascii (c ∷ cs) (IsAscii-cons c cs (first_byte c h) (word_bytes cs hs.0))
+variable_utf8 (c ∷ cs) us (variable h hs) = IsUtf8-from_ascii (c ∷ cs) (IsAscii-cons c cs (first_byte c h) (name_bytes cs hs.0))
 
 -- the name of a token that is spelled
 named : (sort : Sort) (cs us : List ℕ) → Spells sort cs us → HasName sort cs

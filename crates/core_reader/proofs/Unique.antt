@@ -9,7 +9,7 @@ use Rattle.core_grammar.specs.declared.fault.Fault.{Fault}
 use Rattle.core_grammar.specs.Language.{limit, Derives, DerivesCall, Refused, RefusedCall}
 use Rattle.core_parser.proofs.OneAnswer as M
 use Rattle.core_parser.proofs.Modules.{one_module, one_call}
-use Rattle.core_reader.specs.declared.limit.TheConstants.{LEVEL_LIMIT}
+use Rattle.hipe_base.specs.declared.limits.TheConstants.{LEVEL_LIMIT}
 use Rattle.core_reader.specs.declared.refusal.ReadRefusal.{ReadRefusal}
 use Rattle.core_reader.specs.Terminals.{terminals_of}
 use Rattle.core_reader.specs.Language.{end_of, token_refusal, fault_refusal, Reads, IsRefusedAs, no_tokens, no_module, ReadsCall, IsNoCall, no_call_tokens, no_call}

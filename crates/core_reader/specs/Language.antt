@@ -9,7 +9,7 @@ use Rattle.core_token.specs.Text.{AreTokensOf, IsRefused}
 use Rattle.core_ast.specs.declared.tree.Module.{Module}
 use Rattle.core_grammar.specs.declared.fault.Fault.{Fault}
 use Rattle.core_grammar.specs.Language.{limit, Derives, DerivesCall, Refused, RefusedCall}
-use Rattle.core_reader.specs.declared.limit.TheConstants.{LEVEL_LIMIT}
+use Rattle.hipe_base.specs.declared.limits.TheConstants.{LEVEL_LIMIT}
 use Rattle.core_reader.specs.declared.refusal.ReadRefusal.{ReadRefusal}
 use Rattle.core_reader.specs.declared.refusal.CallRefusal.{CallRefusal}
 use Rattle.core_reader.specs.Terminals.{terminals_of}

@@ -7,8 +7,8 @@ use Rattle.core_ast.specs.declared.tree.Module.{Module}
 use Rattle.core_grammar.specs.Language.{limit}
 use Rattle.core_parser.specs.Values.{Values, top, to_module, to_call}
 use Rattle.core_parser.specs.Machine.{Answer, run, module_start, call_start}
-use Rattle.parser_steps.specs.declared.refusal.Refusal.{Refusal}
-use Rattle.core_reader.specs.declared.limit.TheConstants.{LEVEL_LIMIT}
+use Rattle.core_parser_steps.specs.declared.refusal.Refusal.{Refusal}
+use Rattle.hipe_base.specs.declared.limits.TheConstants.{LEVEL_LIMIT}
 use Rattle.core_reader.specs.declared.refusal.ReadRefusal.{ReadRefusal}
 use Rattle.core_reader.specs.declared.refusal.CallRefusal.{CallRefusal}
 use Rattle.core_reader.specs.Terminals.{terminals_of}

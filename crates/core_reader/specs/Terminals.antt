@@ -15,8 +15,9 @@ use Rattle.core_grammar.specs.declared.terminal.Terminal.{Terminal}
 abbrev pub Row : Type 0
 Row = List ℕ × Mark
 
-abbrev pub words : List Row
-words =
+-- the keywords
+abbrev pub keywords : List Row
+keywords =
     (codes "after", Mark.After)
     ∷ (codes "apply", Mark.Apply)
     ∷ (codes "attributes", Mark.Attributes)
@@ -38,6 +39,7 @@ words =
     ∷ (codes "when", Mark.When)
     ∷ []
 
+-- the signs
 abbrev pub signs : List Row
 signs =
     (codes "(", Mark.OpenRound)
@@ -59,16 +61,23 @@ signs =
     ∷ (codes "-|", Mark.Dash)
     ∷ []
 
--- the mark that some bytes spell. Each word and sign of a text is in its table; where bytes aren't, it is `after`
-abbrev pub mark_in : List Row → List ℕ → Mark
-mark_in [] cs = Mark.After
-mark_in (row ∷ rows) cs = if pointwise nat_eq cs row.0 then row.1 else mark_in rows cs
+-- the mark that some bytes spell, if one does
+abbrev pub mark_in : List Row → List ℕ → Option Mark
+mark_in [] cs = None
+mark_in (row ∷ rows) cs = if pointwise nat_eq cs row.0 then Some row.1 else mark_in rows cs
 
-unfoldable pub word_of : List ℕ → Mark
-word_of cs = mark_in words cs
+-- the mark of a keyword
+unfoldable pub keyword_of : List ℕ → Option Mark
+keyword_of cs = mark_in keywords cs
 
-unfoldable pub sign_of : List ℕ → Mark
+-- the mark of a sign
+unfoldable pub sign_of : List ℕ → Option Mark
 sign_of cs = mark_in signs cs
+
+-- what a keyword or a sign is. Each one of a text is in its table; what isn't is no part of the profile, as a float
+abbrev pub marked : Option Mark → Kind
+marked None = Kind.Float
+marked (Some m) = Kind.Mark m
 
 -- an integer without a sign before it is a natural number
 abbrev pub number_of : List ℕ → ℤ → Kind
@@ -91,8 +100,8 @@ kind_of Sort.Integer cs = number_of cs (or_zero (integer_of cs))
 kind_of Sort.Float cs = Kind.Float
 kind_of Sort.Character cs = Kind.Integer (pos (or_nul (character_of cs)))
 kind_of Sort.Text cs = Kind.Text (code_points_of cs)
-kind_of Sort.Word cs = Kind.Mark (word_of cs)
-kind_of Sort.Sign cs = Kind.Mark (sign_of cs)
+kind_of Sort.Word cs = marked (keyword_of cs)
+kind_of Sort.Sign cs = marked (sign_of cs)
 
 -- the name of a variable is UTF-8
 abbrev pub HasName : Sort → List ℕ → Type 0

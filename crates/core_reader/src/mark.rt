@@ -1,12 +1,12 @@
-// Words and signs.
+// Keywords and signs.
 
 ghost use Rattle.std.specs.Prelude.{◌≡◌, map};
-ghost use Rattle.core_reader.specs.Terminals.{mark_in, word_of, sign_of};
+ghost use Rattle.core_reader.specs.Terminals.{mark_in, keyword_of, sign_of};
 
 use core_grammar::Mark;
 
-// The words of the language with their marks, as its definition lists them.
-const WORDS: [(&[u8], Mark); 19] = [
+// The keywords of the language with their marks, as its definition lists them.
+const KEYWORDS: [(&[u8], Mark); 19] = [
     (b"after", Mark::After),
     (b"apply", Mark::Apply),
     (b"attributes", Mark::Attributes),
@@ -49,29 +49,29 @@ const SIGNS: [(&[u8], Mark); 17] = [
     (b"-|", Mark::Dash),
 ];
 
-// The mark of the row that these bytes spell.
-fn mark_in(rows: &[(&[u8], Mark)], bytes: &[u8]) -> Mark
+// The mark of the row that these bytes spell, if there is one.
+fn mark_in(rows: &[(&[u8], Mark)], bytes: &[u8]) -> Option<Mark>
     ensures { result ≡ mark_in (map (λ row. (row.0.now, row.1)) rows.now) bytes.now }
 {
     for row in rows {
         if bytes == row.0 {
-            return row.1;
+            return Some(row.1);
         }
     }
-    Mark::After
+    None
 }
 
-/// The mark of a word.
-#[tactic(auto, unfolding(crate::specs::Terminals::word_of))]
-pub fn word_of(bytes: &[u8]) -> Mark
-    ensures { result ≡ word_of bytes.now }
+/// The mark of a keyword, if the language has it.
+#[tactic(auto, unfolding(crate::specs::Terminals::keyword_of))]
+pub fn keyword_of(bytes: &[u8]) -> Option<Mark>
+    ensures { result ≡ keyword_of bytes.now }
 {
-    mark_in(&WORDS, bytes)
+    mark_in(&KEYWORDS, bytes)
 }
 
-/// The mark of a sign.
+/// The mark of a sign, if the language has it.
 #[tactic(auto, unfolding(crate::specs::Terminals::sign_of))]
-pub fn sign_of(bytes: &[u8]) -> Mark
+pub fn sign_of(bytes: &[u8]) -> Option<Mark>
     ensures { result ≡ sign_of bytes.now }
 {
     mark_in(&SIGNS, bytes)

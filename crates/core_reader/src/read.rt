@@ -13,13 +13,14 @@ use crate::run::run;
 use core_ast::Module;
 use core_grammar::{Fault, Mark};
 use core_parser::{Element, Maker, Part, Symbol, Term};
+use core_parser_steps::Refusal;
+use core_parser_values::Stack;
+use core_parser_values::taken::{take, to_call, to_module};
 use core_text::place::{place_after, start};
 use core_token::{TokenFault, TokenKind, tokens};
+use hipe_base::Memory;
 use hipe_terms::{Call, Place};
-use parser_stack::Stack;
-use parser_steps::Refusal;
-use parser_values::taken::{take, to_call, to_module};
-use std::alloc::{AllocError, Global};
+use std::alloc::Global;
 
 // The place of a text's end.
 fn end_of(text: &[u8]) -> Place
@@ -52,7 +53,7 @@ fn fault_refusal(fault: Fault, at: Place) -> ReadRefusal
 }
 
 // Where a module begins.
-fn module_start(alloc: Global) -> Result<Stack<Symbol>, AllocError>
+fn module_start(alloc: Global) -> Result<Stack<Symbol>, Memory>
     ensures { IfOk result (λ symbols. symbols ≡ module_start) }
 {
     let mut symbols = Stack::new(alloc);
@@ -61,7 +62,7 @@ fn module_start(alloc: Global) -> Result<Stack<Symbol>, AllocError>
 }
 
 // Where a call begins.
-fn call_start(alloc: Global) -> Result<Stack<Symbol>, AllocError>
+fn call_start(alloc: Global) -> Result<Stack<Symbol>, Memory>
     ensures { IfOk result (λ symbols. symbols ≡ call_start) }
 {
     let mut symbols = Stack::new(alloc);

@@ -1,7 +1,7 @@
 // Why a text isn't read.
 
+use hipe_base::Memory;
 use hipe_terms::Place;
-use std::alloc::AllocError;
 use thiserror::Error;
 
 /// Why a text isn't read as a module.
@@ -40,24 +40,24 @@ pub enum CallRefusal {
     Memory,
 }
 
-impl From<AllocError> for ReadRefusal {
+impl From<Memory> for ReadRefusal {
     ghost use Rattle.core_reader.specs.declared.refusal.ReadRefusal.TheVariants.{Memory};
     ghost use Rattle.std.specs.Prelude.{◌≡◌};
 
     ghost from_gives = { λ _ refusal. refusal ≡ Memory };
 
-    fn from(_error: AllocError) -> ReadRefusal {
+    fn from(_error: Memory) -> ReadRefusal {
         ReadRefusal::Memory
     }
 }
 
-impl From<AllocError> for CallRefusal {
+impl From<Memory> for CallRefusal {
     ghost use Rattle.core_reader.specs.declared.refusal.CallRefusal.TheVariants.{Memory};
     ghost use Rattle.std.specs.Prelude.{◌≡◌};
 
     ghost from_gives = { λ _ refusal. refusal ≡ Memory };
 
-    fn from(_error: AllocError) -> CallRefusal {
+    fn from(_error: Memory) -> CallRefusal {
         CallRefusal::Memory
     }
 }

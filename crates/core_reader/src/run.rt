@@ -4,18 +4,18 @@ ghost use Rattle.std.specs.Prelude.{◌≡◌, ◌<◌, ◌^◌, [], length, All
 ghost use Rattle.core_token.specs.Text.{StandsIn};
 ghost use Rattle.core_grammar.specs.Language.{limit};
 ghost use Rattle.core_parser.specs.Machine.{run};
-ghost use Rattle.core_reader.specs.declared.limit.TheConstants.{LEVEL_LIMIT};
+ghost use Rattle.hipe_base.specs.declared.limits.TheConstants.{LEVEL_LIMIT};
 ghost use Rattle.core_reader.specs.Reading.{AnswersRun};
 ghost use Rattle.core_reader.specs.Terminals.{terminals_of};
 
-use crate::limit::LEVEL_LIMIT;
 use crate::terminal::terminal_of;
 use core_grammar::Fault;
 use core_parser::{Symbol, Value};
+use core_parser_steps::{Refusal, step};
+use core_parser_values::Stack;
 use core_token::Token;
+use hipe_base::limits::LEVEL_LIMIT;
 use hipe_terms::Place;
-use parser_stack::Stack;
-use parser_steps::{Refusal, step};
 use std::alloc::Global;
 
 /// The values that are left once these symbols were read, or the first fault; the text ends at a place.

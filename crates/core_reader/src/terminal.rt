@@ -6,17 +6,18 @@ ghost use Rattle.std.specs.Str.{all_scalars, IsUtf8};
 ghost use Rattle.core_token.specs.declared.token.Sort.{Sort as ASort};
 ghost use Rattle.core_token.specs.Values.{HasValue, integer_of, character_of, code_points_of};
 ghost use Rattle.core_token.specs.Text.{StandsIn, bytes_of};
-ghost use Rattle.core_reader.specs.Terminals.{kind_of, terminal_of, HasName, number_of, or_zero, or_nul};
-ghost use Rattle.parser_steps.specs.Steps.{IsNarrow};
+ghost use Rattle.core_reader.specs.Terminals.{kind_of, terminal_of, HasName, number_of, or_zero, or_nul, marked};
+ghost use Rattle.core_parser_steps.specs.Steps.{IsNarrow};
 
-use crate::mark::{sign_of, word_of};
+use crate::mark::{keyword_of, sign_of};
 use core_ast::VariableName;
-use core_grammar::{Kind, Terminal};
+use core_grammar::{Kind, Mark, Terminal};
 use core_text::bytes::begins_with_digit;
 use core_token::{Sort, Token, character_of, code_points_of, integer_of};
+use hipe_base::Memory;
 use hipe_terms::Atom;
 use sqlite_items::Items;
-use std::alloc::{AllocError, Global};
+use std::alloc::Global;
 
 // The bytes of a token.
 fn bytes_of<'a>(text: &'a [u8], token: Token) -> &'a [u8]
@@ -28,7 +29,7 @@ fn bytes_of<'a>(text: &'a [u8], token: Token) -> &'a [u8]
 }
 
 // A code point at the end of a text.
-fn push_point(point: u32, text: &mut String) -> Result<(), AllocError>
+fn push_point(point: u32, text: &mut String) -> Result<(), Memory>
     requires { IsScalar point }
     ensures { OnOk result (string_bytes text.new ≡ string_bytes text.old ++ encode_utf8 point) }
 {
@@ -43,7 +44,7 @@ fn push_point(point: u32, text: &mut String) -> Result<(), AllocError>
 
 // The text of some code points.
 #[tactic(auto, using(crate::proofs::Texts::texts))]
-fn text_of(alloc: Global, points: &[u32]) -> Result<String, AllocError>
+fn text_of(alloc: Global, points: &[u32]) -> Result<String, Memory>
     requires { all_scalars points.now ≡ true }
     ensures { IfOk result (λ s. chars (string_bytes s) ≡ points.now) }
 {
@@ -55,7 +56,7 @@ fn text_of(alloc: Global, points: &[u32]) -> Result<String, AllocError>
 }
 
 // The atom of a token.
-fn atom_of(alloc: Global, bytes: &[u8]) -> Result<Atom, AllocError>
+fn atom_of(alloc: Global, bytes: &[u8]) -> Result<Atom, Memory>
     requires short { length bytes.now < 2 ^ 32 }
     requires value { HasValue ASort.Atom bytes.now }
     ensures { IfOk result (λ a. a ≡ code_points_of bytes.now) }
@@ -99,7 +100,7 @@ fn character(bytes: &[u8]) -> i64
 }
 
 // The variable of a token.
-fn variable_of(alloc: Global, bytes: &[u8]) -> Result<VariableName, AllocError>
+fn variable_of(alloc: Global, bytes: &[u8]) -> Result<VariableName, Memory>
     requires { IsUtf8 bytes.now }
     ensures { IfOk result (λ x. x ≡ bytes.now) }
 {
@@ -113,7 +114,7 @@ fn variable_of(alloc: Global, bytes: &[u8]) -> Result<VariableName, AllocError>
 }
 
 // The code points of a token that is a text.
-fn points_of(alloc: Global, bytes: &[u8]) -> Result<Items<u32>, AllocError>
+fn points_of(alloc: Global, bytes: &[u8]) -> Result<Items<u32>, Memory>
     requires short { length bytes.now < 2 ^ 32 }
     requires value { HasValue ASort.Text bytes.now }
     ensures { IfOk result (λ points. points ≡ code_points_of bytes.now) }
@@ -122,8 +123,19 @@ fn points_of(alloc: Global, bytes: &[u8]) -> Result<Items<u32>, AllocError>
     Ok(Items::from_vec(points))
 }
 
+// What a keyword or a sign is. Each one of a text has a mark.
+fn marked(mark: Option<Mark>) -> Kind
+    ensures kind { result ≡ marked mark }
+    ensures narrow { IsNarrow result }
+{
+    match mark {
+        Some(mark) => Kind::Mark(mark),
+        None => Kind::Float,
+    }
+}
+
 // What a token of this sort with these bytes is.
-fn kind_of(alloc: Global, sort: Sort, bytes: &[u8]) -> Result<Kind, AllocError>
+fn kind_of(alloc: Global, sort: Sort, bytes: &[u8]) -> Result<Kind, Memory>
     requires some { 0 < length bytes.now }
     requires short { length bytes.now < 2 ^ 32 }
     requires value { HasValue sort bytes.now }
@@ -147,14 +159,14 @@ fn kind_of(alloc: Global, sort: Sort, bytes: &[u8]) -> Result<Kind, AllocError>
             let points = points_of(alloc, bytes)?;
             Ok(Kind::Text(points))
         }
-        Sort::Word => Ok(Kind::Mark(word_of(bytes))),
-        Sort::Sign => Ok(Kind::Mark(sign_of(bytes))),
+        Sort::Word => Ok(marked(keyword_of(bytes))),
+        Sort::Sign => Ok(marked(sign_of(bytes))),
     }
 }
 
 /// A token of a text, with its value.
 #[tactic(auto, using(crate::proofs::Texts::standing))]
-pub fn terminal_of(alloc: Global, text: &[u8], token: Token) -> Result<Terminal, AllocError>
+pub fn terminal_of(alloc: Global, text: &[u8], token: Token) -> Result<Terminal, Memory>
     requires short { length text.now < 2 ^ 32 }
     requires stands { StandsIn text.now token }
     ensures terminal { IfOk result (λ t. t ≡ terminal_of text.now token) }

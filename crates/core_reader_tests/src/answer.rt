@@ -8,13 +8,14 @@ use crate::shown::{show_call, show_module};
 use core_ast::Module;
 use core_print::print_module;
 use core_reader::{CallRefusal, ReadRefusal, read_call, read_module};
+use hipe_base::Memory;
 use hipe_terms::Place;
-use std::alloc::{AllocError, Global};
+use std::alloc::Global;
 
 // The longest text that is read here, in bytes.
 const LONGEST: usize = 1_000_000;
 
-type Answer = Result<String, AllocError>;
+type Answer = Result<String, Memory>;
 
 // A refusal and its place.
 fn refused(alloc: Global, kind: &str, at: Place) -> Answer {
@@ -108,19 +109,19 @@ fn said(alloc: Global, text: &[u8], col: u64) -> Verdict {
 }
 
 // A token with a space before it.
-fn listed(list: &mut String, token: &str) -> Result<(), AllocError> {
+fn listed(list: &mut String, token: &str) -> Result<(), Memory> {
     list.push_str(" ")?;
     list.push_str(token)
 }
 
 /// The tokens of the alphabet with which a text of ASCII on one line goes on, and those that the profile hasn't there.
-pub(crate) fn after(alloc: Global, alphabet: &str, front: &str) -> Answer {
+pub(crate) fn after(alloc: Global, alphabet: &str, prefix: &str) -> Answer {
     let mut going_on = String::new(alloc);
     let mut lacking = String::new(alloc);
     let mut other = String::new(alloc);
     for token in alphabet.split_whitespace() {
-        let text = format!(in alloc; "{front} {token}")?;
-        let before = format!(in alloc; "{front} ")?;
+        let text = format!(in alloc; "{prefix} {token}")?;
+        let before = format!(in alloc; "{prefix} ")?;
         match said(alloc, text.as_bytes(), before.len() as u64 + 1) {
             Verdict::GoesOn => listed(&mut going_on, token)?,
             Verdict::NotInProfile => listed(&mut lacking, token)?,
@@ -132,7 +133,7 @@ pub(crate) fn after(alloc: Global, alphabet: &str, front: &str) -> Answer {
 }
 
 // A text again and again.
-fn push_times(alloc: Global, text: &mut String, part: &str, times: u64) -> Result<(), AllocError> {
+fn push_times(alloc: Global, text: &mut String, part: &str, times: u64) -> Result<(), Memory> {
     for _ in 0..times {
         text.push_str(part)?;
     }

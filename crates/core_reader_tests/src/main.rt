@@ -1,6 +1,14 @@
 // Texts and what the reader says of them, a command a line: the program with which the reader is tried.
 //
-// A command is a word, a space and the rest of the line:
+// Promises: nothing of its own; what it writes is compared with what `table` expects.
+//
+// May touch: its input and its output, and memory.
+//
+// Files:
+//   answer.rt   the answer to a command
+//   shown.rt    the text of a tree with its places
+//
+// A command is a name, a space and the rest of the line:
 //   module TEXT            the module of a text, as a tree with places, or its refusal
 //   body TEXT              the same of a module of one function with this body, which begins at 1:58
 //   clause TEXT            the same of a `case` with this clause, which begins at 1:68

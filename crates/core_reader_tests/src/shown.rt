@@ -1,10 +1,11 @@
 // Trees as texts. Where places are asked for, a part is followed by `@`, its line, `:` and its column.
 
 use core_ast::{Clause, Expr, Fun, FunDef, FunName, Module, Node, PatNode, Pattern, Var};
+use hipe_base::Memory;
 use hipe_terms::{Atom, Call, Constant, Place};
-use std::alloc::{AllocError, Global};
+use std::alloc::Global;
 
-type Shown = Result<(), AllocError>;
+type Shown = Result<(), Memory>;
 
 // What is shown so far, and whether it has places.
 #[derive(Drop)]
@@ -284,11 +285,7 @@ fn definitions(tree: &mut Tree, defs: &[FunDef]) -> Shown {
 }
 
 /// A module.
-pub(crate) fn show_module(
-    alloc: Global,
-    m: &Module,
-    with_places: bool,
-) -> Result<String, AllocError> {
+pub(crate) fn show_module(alloc: Global, m: &Module, with_places: bool) -> Result<String, Memory> {
     let mut tree = Tree::new(alloc, with_places);
     tree.atom(m.name.as_str())?;
     tree.push("[")?;
@@ -310,7 +307,7 @@ pub(crate) fn show_module(
 }
 
 /// A call.
-pub(crate) fn show_call(alloc: Global, call: &Call) -> Result<String, AllocError> {
+pub(crate) fn show_call(alloc: Global, call: &Call) -> Result<String, Memory> {
     let mut tree = Tree::new(alloc, false);
     tree.atom(call.name.as_str())?;
     constants(&mut tree, "(", call.args.as_slice(), ")")?;

@@ -3,12 +3,12 @@
 use Rattle.std.specs.Prelude.{◌≡◌, ℕ, ◌+◌, ◌≤◌, ℤ, pos, List, [], ◌∷◌, length, true, false, ◌||◌, ◌==◌, nat_le}
 use Rattle.std.specs.Str.{all_scalars}
 use Rattle.hipe_terms.specs.declared.constant.Constant as RustConstant
-use Rattle.hipe_terms.specs.declared.limits.TheConstants.{ATOM_LIMIT}
+use Rattle.hipe_base.specs.declared.limits.TheConstants.{ATOM_LIMIT}
 use Rattle.hipe_terms.specs.declared.place.Place.{Place}
 use Rattle.hipe_terms.specs.Range.{is_in_range}
 use Rattle.hipe_terms.specs.Terms.{Term, Terms, integer, atom, nil, cons, tuple, fun, none, more, term_of}
-use Rattle.core_text.specs.Bytes.{is_upper, is_word_byte}
-use Rattle.core_text.specs.Fronts.{AreAll}
+use Rattle.core_text.specs.Bytes.{is_upper, is_name_byte}
+use Rattle.core_text.specs.Prefixes.{AreAll}
 use Rattle.core_ast.specs.declared.pattern.Var.{Var}
 use Rattle.core_ast.specs.declared.tree.FunName.{FunName}
 use Rattle.core_ast.specs.Trees.{Pattern, Patterns, no_pattern, and_pattern, Expression, Expressions, no_expression, and_expression, Clauses, no_clause, and_clause, Definitions, no_definition, and_definition, Module}
@@ -29,7 +29,7 @@ IsAtomName a = (length a ≤ ATOM_LIMIT) × (all_scalars a ≡ true)
 -- the bytes of a variable
 abbrev pub IsVariableName : List ℕ → Type 0
 IsVariableName [] = ⊥
-IsVariableName (c ∷ cs) = ((is_upper c || c == 95) ≡ true) × AreAll is_word_byte cs
+IsVariableName (c ∷ cs) = ((is_upper c || c == 95) ≡ true) × AreAll is_name_byte cs
 
 -- what a token can be
 abbrev pub IsGoodKind : Kind → Type 0

@@ -1,5 +1,5 @@
 -- The terminals of a text are what tokens can be.
-use Rattle.std.proofs.Common.{◌≡◌, ◌⊎◌, ℕ, ◌<◌, ◌≤◌, ℤ, pos, Bool, true, false, cond, ◌&&◌, nat_le, List, [], ◌∷◌, All, refl, ap, sym, ◌∙◌, subst, arith}
+use Rattle.std.proofs.Common.{◌≡◌, Option, Some, None, ◌⊎◌, ℕ, ◌<◌, ◌≤◌, ℤ, pos, Bool, true, false, cond, ◌&&◌, nat_le, List, [], ◌∷◌, All, refl, ap, sym, ◌∙◌, subst, arith}
 use Rattle.std.specs.Char.{IsScalar}
 use lib.Utf8.{scalar, scalar_cases}
 use Rattle.std.specs.Str.{all_scalars}
@@ -17,10 +17,11 @@ use Rattle.core_token.specs.Values.{code_points_of, HasValue}
 use Rattle.core_token.proofs.Spelled.{most, in_range}
 use Rattle.core_token.proofs.Valued.{integer_there, stand}
 use Rattle.core_grammar.specs.declared.terminal.Kind.{Kind}
+use Rattle.core_grammar.specs.declared.terminal.Mark.{Mark}
 use Rattle.core_grammar.specs.declared.terminal.Terminal.{Terminal}
 use Rattle.core_grammar.specs.Ranges.{code_points_in_range, kind_in_range, terminals_in_range}
 use Rattle.core_round_trip.proofs.Fits.{IsInRange, IsGoodKind, AreGood}
-use Rattle.core_reader.specs.Terminals.{number_of, or_zero, or_nul, kind_of, terminals_of}
+use Rattle.core_reader.specs.Terminals.{number_of, or_zero, or_nul, marked, keyword_of, sign_of, kind_of, terminals_of}
 
 both : (a b : Bool) → a ≡ true → b ≡ true → (a && b) ≡ true
 both a b h k = ap (λ x. x && b) h ∙ k
@@ -58,6 +59,10 @@ variable_good (c ∷ cs) us (variable h hs) = (h, hs.0)
 spelled_integer_good : (cs us : List ℕ) → Spells Sort.Integer cs us → IsGoodKind (kind_of Sort.Integer cs)
 spelled_integer_good cs us (integer {n = n} is few) = integer_good n cs us is few
 
+marked_good : (o : Option Mark) → IsGoodKind (marked o)
+marked_good None = tt
+marked_good (Some m) = tt
+
 kind_good : (sort : Sort) (cs us : List ℕ) → Spells sort cs us → HasValue sort cs → IsGoodKind (kind_of sort cs)
 kind_good Sort.Atom cs us is h = (h.1, h.2)
 kind_good Sort.Variable cs us is h = variable_good cs us is
@@ -65,8 +70,8 @@ kind_good Sort.Integer cs us is h = spelled_integer_good cs us is
 kind_good Sort.Float cs us is h = tt
 kind_good Sort.Character cs us is h = subst (λ o. IsInRange (pos (or_nul o))) (sym h.1) (scalar_in_range h.0 h.2)
 kind_good Sort.Text cs us is h = scalars_in_range (code_points_of cs) h.1
-kind_good Sort.Word cs us is h = tt
-kind_good Sort.Sign cs us is h = tt
+kind_good Sort.Word cs us is h = marked_good (keyword_of cs)
+kind_good Sort.Sign cs us is h = marked_good (sign_of cs)
 
 all_good : (s : List ℕ) (ts : List Token) → All (StandsIn s) ts → AreGood (terminals_of s ts)
 all_good s [] h = tt

@@ -10,7 +10,7 @@ use Rattle.hipe_terms.specs.Shown.{in_hex, is_control, escaped, quoted}
 use Rattle.hipe_terms.proofs.Parts.{and_first, and_second}
 use Rattle.core_text.specs.Bytes.{is_hex, begins}
 use Rattle.core_text.specs.Escapes.{simple_escape}
-use Rattle.core_text.specs.Fronts.{AreAll}
+use Rattle.core_text.specs.Prefixes.{AreAll}
 use Rattle.core_text.specs.Characters.{IsEscape, simple, braced, IsCodePoint, itself, escaped as by_escape, IsQuoted, closing, code_point}
 use Rattle.core_text.proofs.Encodings.{sizes, encode_one, encode_two, encode_three, encode_four}
 use Rattle.core_token.specs.declared.token.Sort.{Sort}

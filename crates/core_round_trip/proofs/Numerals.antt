@@ -8,8 +8,8 @@ use Rattle.std.proofs.lemmas.Bool.Decides.{nat_tests}
 use Rattle.std.proofs.lemmas.Fmt.{digits_is_IsNumeral, decimal_is_IsNumeral, IsAscii-decimal}
 use Rattle.std.proofs.lemmas.Str.{IsUtf8-from_ascii}
 use Rattle.std.proofs.lemmas.Str.Ascii.{IsAscii-cons}
-use Rattle.core_text.specs.Bytes.{is_digit, is_hex, is_word_byte, begins, digit_value as text_digit, number_from}
-use Rattle.core_text.specs.Fronts.{AreAll, AreDigits, BeginsWithNone}
+use Rattle.core_text.specs.Bytes.{is_digit, is_hex, is_name_byte, begins, digit_value as text_digit, number_from}
+use Rattle.core_text.specs.Prefixes.{AreAll, AreDigits, BeginsWithNone}
 use Rattle.core_text.specs.Numbers.{IsFraction, none, minus, IsInteger, integer}
 use Rattle.core_text.proofs.Fractions.{no_fraction}
 use Rattle.core_token.specs.declared.token.Sort.{Sort}
@@ -19,18 +19,18 @@ use Rattle.core_round_trip.proofs.Fits.{IsInRange}
 use Rattle.core_round_trip.proofs.TreeKinds.{integer_kind}
 use Rattle.core_reader.specs.Terminals.{number_of, or_zero, kind_of}
 
--- ---- what may stand behind a word, a variable or an integer
+-- ---- what may stand behind a keyword, a variable or an integer
 
 -- a byte that would go on with one of them
 abbrev pub goes_on : ℕ → Bool
-goes_on c = is_word_byte c || c == 46
+goes_on c = is_name_byte c || c == 46
 
 abbrev pub IsApart : List ℕ → Type 0
 IsApart us = begins goes_on us ≡ false
 
-pub no_word_byte : (us : List ℕ) → IsApart us → begins is_word_byte us ≡ false
-no_word_byte [] h = refl
-no_word_byte (c ∷ us) h = grind (arith, nat_tests)
+pub no_name_byte : (us : List ℕ) → IsApart us → begins is_name_byte us ≡ false
+no_name_byte [] h = refl
+no_name_byte (c ∷ us) h = grind (arith, nat_tests)
 
 no_digit : (us : List ℕ) → IsApart us → begins is_digit us ≡ false
 no_digit [] h = refl

@@ -1,39 +1,39 @@
 -- Pieces whose text has tokens of given kinds, whatever text stands behind it.
-use Rattle.std.proofs.Common.{◌≡◌, ℕ, ℤ, pos, ◌<◌, ◌||◌, ◌==◌, true, List, [], ◌∷◌, ◌++◌, codes, refl, ap, sym, ◌∙◌, subst, append_assoc, append-nil, arith}
+use Rattle.std.proofs.Common.{◌≡◌, Some, ℕ, ℤ, pos, ◌<◌, ◌||◌, ◌==◌, true, List, [], ◌∷◌, ◌++◌, codes, refl, ap, sym, ◌∙◌, subst, append_assoc, append-nil, arith}
 use Rattle.std.specs.Fmt.{signed_decimal}
 use Rattle.hipe_terms.specs.Shown.{quoted, shown}
 use Rattle.hipe_terms.specs.Terms.{Term}
-use Rattle.core_text.specs.Bytes.{is_upper, is_word_byte}
-use Rattle.core_text.specs.Fronts.{AreAll}
+use Rattle.core_text.specs.Bytes.{is_upper, is_name_byte}
+use Rattle.core_text.specs.Prefixes.{AreAll}
 use Rattle.core_token.specs.declared.token.Sort.{Sort}
-use Rattle.core_token.specs.Lexemes.{is_word, is_short_sign}
-use Rattle.core_token.specs.Spelling.{variable as spelled_variable, integer as spelled_integer, word as spelled_word, sign as spelled_sign, dash_sign}
+use Rattle.core_token.specs.Lexemes.{is_keyword, is_short_sign}
+use Rattle.core_token.specs.Spelling.{variable as spelled_variable, integer as spelled_integer, keyword as spelled_keyword, sign as spelled_sign, dash_sign}
 use Rattle.core_ast.specs.declared.tree.FunName.{FunName}
 use Rattle.core_grammar.specs.declared.terminal.Kind.{Kind}
 use Rattle.core_grammar.specs.declared.terminal.Mark.{Mark}
-use Rattle.core_print.specs.Printed.{Piece, spelled, text_of, atom, variable, integer, word, sign, space, line, name_pieces}
+use Rattle.core_print.specs.Printed.{Piece, spelled, text_of, atom, variable, integer, keyword, sign, space, line, name_pieces}
 use Rattle.core_round_trip.proofs.TreeKinds.{integer_kind, name_kinds}
 use Rattle.core_round_trip.proofs.Fits.{IsInRange, IsAtomName, IsVariableName, IsName}
-use Rattle.core_reader.specs.Terminals.{word_of, sign_of}
+use Rattle.core_reader.specs.Terminals.{marked, keyword_of, sign_of}
 use Rattle.core_round_trip.proofs.Tokens.{HasKinds, AreAscii, ascii_utf8, after_space, after_line, after_token}
-use Rattle.core_round_trip.proofs.Numerals.{IsApart, no_word_byte, integer_spelled, integer_kind_is, integer_utf8}
+use Rattle.core_round_trip.proofs.Numerals.{IsApart, no_name_byte, integer_spelled, integer_kind_is, integer_utf8}
 use Rattle.core_round_trip.proofs.Names.{atom_spelled, atom_kind_is, atom_utf8}
 
 -- the kinds of some pieces before those of what stands behind them
-abbrev pub Front : Type 0
-Front = List Kind → List Kind
+abbrev pub Prefix : Type 0
+Prefix = List Kind → List Kind
 
 -- ---- the tokens of pieces
 
 -- The text of these pieces has tokens of these kinds, whatever stands behind it: nothing goes on with its last token.
-pub record Closed (a : List Piece) (f : Front) : Type 0 where
+pub record Closed (a : List Piece) (f : Prefix) : Type 0 where
   pub read : (us : List ℕ) (ks : List Kind) → HasKinds us ks → HasKinds (text_of a ++ us) (f ks)
 
--- The same where what stands behind it wouldn't go on with a word, a variable or an integer.
-pub record Open (a : List Piece) (f : Front) : Type 0 where
+-- The same where what stands behind it wouldn't go on with a keyword, a variable or an integer.
+pub record Open (a : List Piece) (f : Prefix) : Type 0 where
   pub read : (us : List ℕ) (ks : List Kind) → IsApart us → HasKinds us ks → HasKinds (text_of a ++ us) (f ks)
 
--- Its first byte goes on with no word, variable or integer before it.
+-- Its first byte goes on with no keyword, variable or integer before it.
 pub record Starts (a : List Piece) : Type 0 where
   pub apart : (us : List ℕ) → IsApart (text_of a ++ us)
 
@@ -49,11 +49,11 @@ module _ {a : List Piece} where
   pub keeps : Starts a → Keeps a
   keeps s = record { apart = λ us h. s.apart us }
 
-module _ {a : List Piece} {f : Front} where
+module _ {a : List Piece} {f : Prefix} where
   pub as_open : Closed a f → Open a f
   as_open h = record { read = λ us ks apart k. h.read us ks k }
 
-module _ {a b : List Piece} {f g : Front} where
+module _ {a b : List Piece} {f g : Prefix} where
   pub closed_closed : Closed a f → Closed b g → Closed (a ++ b) (λ ks. f (g ks))
   closed_closed h k = record { read = λ us ks u. subst (λ t. HasKinds t (f (g ks))) (sym (text_append a b us)) (h.read (text_of b ++ us) (g ks) (k.read us ks u)) }
 
@@ -104,107 +104,107 @@ integer_read n us ks h apart k = after_token Sort.Integer (signed_decimal n) us 
 pub an_integer : (n : ℤ) → IsInRange n → Open (integer n) (λ ks. integer_kind n ∷ ks)
 an_integer n h = record { read = λ us ks apart k. alone (Piece.Integer n) us (integer_kind n ∷ ks) (integer_read n us ks h apart k) }
 
-pub a_constant_by : (t : Term) (f : Front) → ((us : List ℕ) (ks : List Kind) → IsApart us → HasKinds us ks → HasKinds (shown [] t ++ us) (f ks)) → Open (Piece.Constant t ∷ []) f
+pub a_constant_by : (t : Term) (f : Prefix) → ((us : List ℕ) (ks : List Kind) → IsApart us → HasKinds us ks → HasKinds (shown [] t ++ us) (f ks)) → Open (Piece.Constant t ∷ []) f
 a_constant_by t f h = record { read = λ us ks apart k. alone (Piece.Constant t) us (f ks) (h us ks apart k) }
 
 -- ---- variables
 
-word_byte_small : (c : ℕ) → is_word_byte c ≡ true → c < 128
-word_byte_small c h = grind arith
+name_byte_small : (c : ℕ) → is_name_byte c ≡ true → c < 128
+name_byte_small c h = grind arith
 
 first_byte_small : (c : ℕ) → (is_upper c || c == 95) ≡ true → c < 128
 first_byte_small c h = grind arith
 
-word_bytes_ascii : (cs : List ℕ) → AreAll is_word_byte cs → AreAscii cs
-word_bytes_ascii [] h = tt
-word_bytes_ascii (c ∷ cs) h = (word_byte_small c h.0, word_bytes_ascii cs h.1)
+name_bytes_ascii : (cs : List ℕ) → AreAll is_name_byte cs → AreAscii cs
+name_bytes_ascii [] h = tt
+name_bytes_ascii (c ∷ cs) h = (name_byte_small c h.0, name_bytes_ascii cs h.1)
 
 variable_read : (x us : List ℕ) (ks : List Kind) → IsVariableName x → IsApart us → HasKinds us ks → HasKinds (x ++ us) (Kind.Variable x ∷ ks)
 variable_read [] us ks h apart k = absurd h
 variable_read (c ∷ cs) us ks h apart k =
-    after_token Sort.Variable (c ∷ cs) us (Kind.Variable (c ∷ cs)) ks (spelled_variable h.0 (h.1, no_word_byte us apart)) refl (ascii_utf8 (c ∷ cs) (first_byte_small c h.0, word_bytes_ascii cs h.1)) k
+    after_token Sort.Variable (c ∷ cs) us (Kind.Variable (c ∷ cs)) ks (spelled_variable h.0 (h.1, no_name_byte us apart)) refl (ascii_utf8 (c ∷ cs) (first_byte_small c h.0, name_bytes_ascii cs h.1)) k
 
 pub a_variable : (x : List ℕ) → IsVariableName x → Open (variable x) (λ ks. Kind.Variable x ∷ ks)
 a_variable x h = record { read = λ us ks apart k. alone (Piece.Variable x) us (Kind.Variable x ∷ ks) (variable_read x us ks h apart k) }
 
--- ---- words
+-- ---- keywords
 
 module _ (w : List ℕ) (m : Mark) where
-  a_word : is_word w ≡ true → word_of w ≡ m → AreAscii w → Open (word w) (λ ks. Kind.Mark m ∷ ks)
-  a_word is kind small = record { read = λ us ks apart k. alone (Piece.Word w) us (Kind.Mark m ∷ ks) (after_token Sort.Word w us (Kind.Mark m) ks (spelled_word is (no_word_byte us apart)) (ap Kind.Mark kind) (ascii_utf8 w small) k) }
+  a_keyword : is_keyword w ≡ true → keyword_of w ≡ Some m → AreAscii w → Open (keyword w) (λ ks. Kind.Mark m ∷ ks)
+  a_keyword is kind small = record { read = λ us ks apart k. alone (Piece.Keyword w) us (Kind.Mark m ∷ ks) (after_token Sort.Word w us (Kind.Mark m) ks (spelled_keyword is (no_name_byte us apart)) (ap marked kind) (ascii_utf8 w small) k) }
 
-abbrev pub IsWordOf : List ℕ → Mark → Type 0
-IsWordOf w m = Open (word w) (λ ks. Kind.Mark m ∷ ks)
+abbrev pub IsKeywordOf : List ℕ → Mark → Type 0
+IsKeywordOf w m = Open (keyword w) (λ ks. Kind.Mark m ∷ ks)
 
-pub apply_word : IsWordOf (codes "apply") Mark.Apply
-unfolding word_of is_word
-apply_word = a_word (codes "apply") Mark.Apply refl refl (omega arith)
+pub apply_keyword : IsKeywordOf (codes "apply") Mark.Apply
+unfolding keyword_of is_keyword
+apply_keyword = a_keyword (codes "apply") Mark.Apply refl refl (omega arith)
 
-pub attributes_word : IsWordOf (codes "attributes") Mark.Attributes
-unfolding word_of is_word
-attributes_word = a_word (codes "attributes") Mark.Attributes refl refl (omega arith)
+pub attributes_keyword : IsKeywordOf (codes "attributes") Mark.Attributes
+unfolding keyword_of is_keyword
+attributes_keyword = a_keyword (codes "attributes") Mark.Attributes refl refl (omega arith)
 
-pub call_word : IsWordOf (codes "call") Mark.Call
-unfolding word_of is_word
-call_word = a_word (codes "call") Mark.Call refl refl (omega arith)
+pub call_keyword : IsKeywordOf (codes "call") Mark.Call
+unfolding keyword_of is_keyword
+call_keyword = a_keyword (codes "call") Mark.Call refl refl (omega arith)
 
-pub case_word : IsWordOf (codes "case") Mark.Case
-unfolding word_of is_word
-case_word = a_word (codes "case") Mark.Case refl refl (omega arith)
+pub case_keyword : IsKeywordOf (codes "case") Mark.Case
+unfolding keyword_of is_keyword
+case_keyword = a_keyword (codes "case") Mark.Case refl refl (omega arith)
 
-pub catch_word : IsWordOf (codes "catch") Mark.Catch
-unfolding word_of is_word
-catch_word = a_word (codes "catch") Mark.Catch refl refl (omega arith)
+pub catch_keyword : IsKeywordOf (codes "catch") Mark.Catch
+unfolding keyword_of is_keyword
+catch_keyword = a_keyword (codes "catch") Mark.Catch refl refl (omega arith)
 
-pub do_word : IsWordOf (codes "do") Mark.Do
-unfolding word_of is_word
-do_word = a_word (codes "do") Mark.Do refl refl (omega arith)
+pub do_keyword : IsKeywordOf (codes "do") Mark.Do
+unfolding keyword_of is_keyword
+do_keyword = a_keyword (codes "do") Mark.Do refl refl (omega arith)
 
-pub end_word : IsWordOf (codes "end") Mark.End
-unfolding word_of is_word
-end_word = a_word (codes "end") Mark.End refl refl (omega arith)
+pub end_keyword : IsKeywordOf (codes "end") Mark.End
+unfolding keyword_of is_keyword
+end_keyword = a_keyword (codes "end") Mark.End refl refl (omega arith)
 
-pub fun_word : IsWordOf (codes "fun") Mark.Fun
-unfolding word_of is_word
-fun_word = a_word (codes "fun") Mark.Fun refl refl (omega arith)
+pub fun_keyword : IsKeywordOf (codes "fun") Mark.Fun
+unfolding keyword_of is_keyword
+fun_keyword = a_keyword (codes "fun") Mark.Fun refl refl (omega arith)
 
-pub in_word : IsWordOf (codes "in") Mark.In
-unfolding word_of is_word
-in_word = a_word (codes "in") Mark.In refl refl (omega arith)
+pub in_keyword : IsKeywordOf (codes "in") Mark.In
+unfolding keyword_of is_keyword
+in_keyword = a_keyword (codes "in") Mark.In refl refl (omega arith)
 
-pub let_word : IsWordOf (codes "let") Mark.Let
-unfolding word_of is_word
-let_word = a_word (codes "let") Mark.Let refl refl (omega arith)
+pub let_keyword : IsKeywordOf (codes "let") Mark.Let
+unfolding keyword_of is_keyword
+let_keyword = a_keyword (codes "let") Mark.Let refl refl (omega arith)
 
-pub letrec_word : IsWordOf (codes "letrec") Mark.Letrec
-unfolding word_of is_word
-letrec_word = a_word (codes "letrec") Mark.Letrec refl refl (omega arith)
+pub letrec_keyword : IsKeywordOf (codes "letrec") Mark.Letrec
+unfolding keyword_of is_keyword
+letrec_keyword = a_keyword (codes "letrec") Mark.Letrec refl refl (omega arith)
 
-pub module_word : IsWordOf (codes "module") Mark.Module
-unfolding word_of is_word
-module_word = a_word (codes "module") Mark.Module refl refl (omega arith)
+pub module_keyword : IsKeywordOf (codes "module") Mark.Module
+unfolding keyword_of is_keyword
+module_keyword = a_keyword (codes "module") Mark.Module refl refl (omega arith)
 
-pub of_word : IsWordOf (codes "of") Mark.Of
-unfolding word_of is_word
-of_word = a_word (codes "of") Mark.Of refl refl (omega arith)
+pub of_keyword : IsKeywordOf (codes "of") Mark.Of
+unfolding keyword_of is_keyword
+of_keyword = a_keyword (codes "of") Mark.Of refl refl (omega arith)
 
-pub primop_word : IsWordOf (codes "primop") Mark.Primop
-unfolding word_of is_word
-primop_word = a_word (codes "primop") Mark.Primop refl refl (omega arith)
+pub primop_keyword : IsKeywordOf (codes "primop") Mark.Primop
+unfolding keyword_of is_keyword
+primop_keyword = a_keyword (codes "primop") Mark.Primop refl refl (omega arith)
 
-pub try_word : IsWordOf (codes "try") Mark.Try
-unfolding word_of is_word
-try_word = a_word (codes "try") Mark.Try refl refl (omega arith)
+pub try_keyword : IsKeywordOf (codes "try") Mark.Try
+unfolding keyword_of is_keyword
+try_keyword = a_keyword (codes "try") Mark.Try refl refl (omega arith)
 
-pub when_word : IsWordOf (codes "when") Mark.When
-unfolding word_of is_word
-when_word = a_word (codes "when") Mark.When refl refl (omega arith)
+pub when_keyword : IsKeywordOf (codes "when") Mark.When
+unfolding keyword_of is_keyword
+when_keyword = a_keyword (codes "when") Mark.When refl refl (omega arith)
 
 -- ---- signs
 
 module _ (c : ℕ) (m : Mark) where
-  a_sign : is_short_sign c ≡ true → sign_of (c ∷ []) ≡ m → c < 128 → Closed (sign (c ∷ [])) (λ ks. Kind.Mark m ∷ ks)
-  a_sign is kind small = record { read = λ us ks k. after_token Sort.Sign (c ∷ []) us (Kind.Mark m) ks (spelled_sign is) (ap Kind.Mark kind) (ascii_utf8 (c ∷ []) (small, tt)) k }
+  a_sign : is_short_sign c ≡ true → sign_of (c ∷ []) ≡ Some m → c < 128 → Closed (sign (c ∷ [])) (λ ks. Kind.Mark m ∷ ks)
+  a_sign is kind small = record { read = λ us ks k. after_token Sort.Sign (c ∷ []) us (Kind.Mark m) ks (spelled_sign is) (ap marked kind) (ascii_utf8 (c ∷ []) (small, tt)) k }
 
 abbrev pub IsSignOf : List ℕ → Mark → Type 0
 IsSignOf s m = Closed (sign s) (λ ks. Kind.Mark m ∷ ks)

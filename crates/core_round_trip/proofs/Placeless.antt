@@ -7,7 +7,7 @@ use Rattle.core_ast.specs.declared.tree.Module as RustModule
 use Rattle.core_ast.specs.Trees.{Pattern, Patterns, no_pattern, and_pattern, Expression, Expressions, no_expression, and_expression, Clauses, no_clause, and_clause, Definitions, no_definition, and_definition, Module, module_of}
 use Rattle.core_ast.specs.SameTree.{placeless_variable, placeless_variables, placeless_pattern, placeless_patterns, placeless, placeless_expressions, placeless_clauses, placeless_definitions, placeless_export, placeless_module, SameTree}
 use Rattle.core_ast.specs.WellFormed.{well_formed_pattern, well_formed_patterns, well_formed, well_formed_expressions, well_formed_clauses, well_formed_definitions, well_formed_attributes, well_formed_module, IsWellFormed}
-use Rattle.core_print.specs.Printed.{Piece, text_of, word, space, line, deeper, opened, enclosed, arrow, equals, tail_pieces, variable_pieces, alias_pieces, spaced_pieces, block_pieces, next_pieces, let_pieces, in_pieces, of_pieces, clause_pieces, fun_pieces, definition_pieces, call_pieces, primop_pieces, branch_pieces, is_nil_pattern, pattern_pieces, each_pattern, is_nil, pieces, each, clauses_pieces, definitions_pieces, export_pieces, head_pieces, attributes_pieces, printed}
+use Rattle.core_print.specs.Printed.{Piece, text_of, keyword, space, line, deeper, opened, enclosed, arrow, equals, tail_pieces, variable_pieces, alias_pieces, spaced_pieces, block_pieces, next_pieces, let_pieces, in_pieces, of_pieces, clause_pieces, fun_pieces, definition_pieces, call_pieces, primop_pieces, branch_pieces, is_nil_pattern, pattern_pieces, each_pattern, is_nil, pieces, each, clauses_pieces, definitions_pieces, export_pieces, head_pieces, attributes_pieces, printed}
 use Rattle.core_round_trip.proofs.Made.{placeless_list_pattern, placeless_list}
 
 ap₃ : {A B C D : Type 0} (f : A → B → C → D) {a a' : A} {b b' : B} {c c' : C} → a ≡ a' → b ≡ b' → c ≡ c' → f a b c ≡ f a' b' c'
@@ -25,15 +25,15 @@ alias_printed x part = refl
 
 let_printed : (d : ℕ) (xs : List Var) (values : List Piece) → let_pieces d (placeless_variables xs) values ≡ let_pieces d xs values
 unfolding let_pieces
-let_printed d xs values = ap (λ ns. word (codes "let") ++ space ++ enclosed (codes "<") ns (codes ">") ++ equals d ++ values) (names_printed xs)
+let_printed d xs values = ap (λ ns. keyword (codes "let") ++ space ++ enclosed (codes "<") ns (codes ">") ++ equals d ++ values) (names_printed xs)
 
 fun_printed : (d : ℕ) (xs : List Var) (body : List Piece) → fun_pieces d (placeless_variables xs) body ≡ fun_pieces d xs body
 unfolding fun_pieces
-fun_printed d xs body = ap (λ ns. word (codes "fun") ++ space ++ enclosed (codes "(") ns (codes ")") ++ arrow d ++ body) (names_printed xs)
+fun_printed d xs body = ap (λ ns. keyword (codes "fun") ++ space ++ enclosed (codes "(") ns (codes ")") ++ arrow d ++ body) (names_printed xs)
 
 branch_printed : (d : ℕ) (w : List ℕ) (xs : List Var) (body : List Piece) → branch_pieces d w (placeless_variables xs) body ≡ branch_pieces d w xs body
 unfolding branch_pieces
-branch_printed d w xs body = ap (λ ns. line d ++ word w ++ space ++ enclosed (codes "<") ns (codes ">") ++ arrow d ++ body) (names_printed xs)
+branch_printed d w xs body = ap (λ ns. line d ++ keyword w ++ space ++ enclosed (codes "<") ns (codes ">") ++ arrow d ++ body) (names_printed xs)
 
 -- ---- what is printed of patterns
 
@@ -96,7 +96,7 @@ mutual
       ap₂ (λ v b. v ++ in_pieces d b) (let_printed d xs (pieces (deeper d) (placeless values)) ∙ ap (let_pieces d xs) (expression_printed (deeper d) values)) (expression_printed d body)
   expression_printed d (Expression.Case p values cs) = ap₂ (λ v c. spaced_pieces (codes "case") v ++ of_pieces d c) (expression_printed d values) (clauses_printed (deeper d) cs)
   expression_printed d (Expression.Lambda p q xs body) = fun_printed d xs (pieces (deeper d) (placeless body)) ∙ ap (fun_pieces d xs) (expression_printed (deeper d) body)
-  expression_printed d (Expression.Letrec p ds body) = ap₂ (λ f b. word (codes "letrec") ++ f ++ in_pieces d b) (definitions_printed (deeper d) ds) (expression_printed d body)
+  expression_printed d (Expression.Letrec p ds body) = ap₂ (λ f b. keyword (codes "letrec") ++ f ++ in_pieces d b) (definitions_printed (deeper d) ds) (expression_printed d body)
   expression_printed d (Expression.Apply p f args) = ap₂ (λ g ps. spaced_pieces (codes "apply") g ++ enclosed (codes "(") ps (codes ")")) (expression_printed d f) (expressions_printed d args)
   expression_printed d (Expression.Call p m f args) = ap (call_pieces m f) (expressions_printed d args)
   expression_printed d (Expression.Primop p f args) = ap (primop_pieces f) (expressions_printed d args)
@@ -130,10 +130,10 @@ exports_printed (e ∷ es) = ap (λ ps. export_pieces e ∷ ps) (exports_printed
 
 head_printed : (name : List ℕ) (es : List (FunName × Place)) → head_pieces name (map placeless_export es) ≡ head_pieces name es
 unfolding head_pieces
-head_printed name es = ap (λ ps. word (codes "module") ++ space ++ (Piece.Atom name ∷ []) ++ space ++ enclosed (codes "[") ps (codes "]")) (exports_printed es)
+head_printed name es = ap (λ ps. keyword (codes "module") ++ space ++ (Piece.Atom name ∷ []) ++ space ++ enclosed (codes "[") ps (codes "]")) (exports_printed es)
 
 module_printed : (m : Module) → printed (placeless_module m) ≡ printed m
-module_printed m = ap₂ (λ h ds. text_of (h ++ attributes_pieces m.attributes ++ ds ++ line 0 ++ word (codes "end") ++ line 0)) (head_printed m.name m.exports) (definitions_printed 0 m.definitions)
+module_printed m = ap₂ (λ h ds. text_of (h ++ attributes_pieces m.attributes ++ ds ++ line 0 ++ keyword (codes "end") ++ line 0)) (head_printed m.name m.exports) (definitions_printed 0 m.definitions)
 
 pub same_printed : (m n : RustModule.Module) → SameTree m n → printed (module_of m) ≡ printed (module_of n)
 same_printed m n e = sym (module_printed (module_of m)) ∙ ap printed e ∙ module_printed (module_of n)

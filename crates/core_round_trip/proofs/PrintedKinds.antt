@@ -11,7 +11,7 @@ use Rattle.core_print.specs.Printed.{deeper, after_comma, with_commas, is_nil_pa
 use Rattle.core_round_trip.proofs.TreeKinds.{pattern_kinds, patterns_kinds, patterns_behind, kinds, kinds_of_all, kinds_behind, clauses_kinds, definitions_kinds, exports_behind, exports_kinds, attribute_kinds, attributes_behind, attributes_kinds, module_kinds}
 use Rattle.core_round_trip.proofs.Fits.{PatternFits, PatternsFit, Fits, AllFit, ClausesFit, DefinitionsFit, ExportsFit, AttributesFit, ModuleFits}
 use Rattle.core_round_trip.proofs.Tokens.{HasKinds, at_end}
-use Rattle.core_round_trip.proofs.PieceKinds.{Closed, Open, Keeps, as_open, closed_closed, closed_open, open_closed, open_open, none, none_keeps, a_space, space_starts, a_line, line_starts, an_atom, an_integer, a_variable, a_name, apply_word, attributes_word, case_word, catch_word, do_word, end_word, letrec_word, module_word, of_word, try_word, open_brace, close_brace, open_square, close_square, less, greater, comma, equals_sign}
+use Rattle.core_round_trip.proofs.PieceKinds.{Closed, Open, Keeps, as_open, closed_closed, closed_open, open_closed, open_open, none, none_keeps, a_space, space_starts, a_line, line_starts, an_atom, an_integer, a_variable, a_name, apply_keyword, attributes_keyword, case_keyword, catch_keyword, do_keyword, end_keyword, letrec_keyword, module_keyword, of_keyword, try_keyword, open_brace, close_brace, open_square, close_square, less, greater, comma, equals_sign}
 use Rattle.core_round_trip.proofs.TermKinds.{a_constant}
 use Rattle.core_round_trip.proofs.ConstructKinds.{commas_keep, opened_reads, enclosed_ends, tail_ends, tail_starts, alias_reads, spaced_reads, block_reads, next_reads, next_keeps, let_reads, in_reads, in_keeps, of_reads, of_keeps, fun_reads, definition_reads, branch_reads, branch_keeps, arguments_end, arguments_start, call_ends, primop_ends, clause_reads}
 
@@ -66,29 +66,29 @@ module _ (n : ℕ) where
         open_open (let_reads (pieces (deeper d) v) (expression_reads (k + 1) (deeper d) v f.2) d xs f.1) (in_keeps (pieces d e) body d) (in_reads (pieces d e) body d)
     expression_reads k d (T.Expression.Case p v cs) f =
         let cases = clauses_read (k + 1) (deeper d) cs f.3 in
-        open_open (spaced_reads (pieces d v) (expression_reads (k + 1) d v f.1) (codes "case") Mark.Case case_word) (of_keeps (clauses_pieces (deeper d) cs) cases d) (of_reads (clauses_pieces (deeper d) cs) cases d (clauses_keep (deeper d) cs))
+        open_open (spaced_reads (pieces d v) (expression_reads (k + 1) d v f.1) (codes "case") Mark.Case case_keyword) (of_keeps (clauses_pieces (deeper d) cs) cases d) (of_reads (clauses_pieces (deeper d) cs) cases d (clauses_keep (deeper d) cs))
     expression_reads k d (T.Expression.Lambda p q xs e) f = fun_reads (pieces (deeper d) e) (expression_reads (k + 1) (deeper d) e f.2) d xs f.1
     expression_reads k d (T.Expression.Letrec p ds e) f =
         let body = expression_reads (k + 1) d e f.2 in
-        open_open (open_open letrec_word (definitions_keep (deeper d) ds) (definitions_read (k + 1) (deeper d) ds f.1)) (in_keeps (pieces d e) body d) (in_reads (pieces d e) body d)
+        open_open (open_open letrec_keyword (definitions_keep (deeper d) ds) (definitions_read (k + 1) (deeper d) ds f.1)) (in_keeps (pieces d e) body d) (in_reads (pieces d e) body d)
     expression_reads k d (T.Expression.Apply p g es) f =
         let args = all_read (k + 1) d es f.2 in
-        as_open (open_closed (spaced_reads (pieces d g) (expression_reads (k + 1) d g f.1) (codes "apply") Mark.Apply apply_word) (arguments_start (each d es) args) (arguments_end (each d es) args))
+        as_open (open_closed (spaced_reads (pieces d g) (expression_reads (k + 1) d g f.1) (codes "apply") Mark.Apply apply_keyword) (arguments_start (each d es) args) (arguments_end (each d es) args))
     expression_reads k d (T.Expression.Call p m g es) f = as_open (call_ends (each d es) (all_read (k + 1) d es f.3) m g f.1 f.2)
     expression_reads k d (T.Expression.Primop p g es) f = as_open (primop_ends (each d es) (all_read (k + 1) d es f.2) g f.1)
     expression_reads k d (T.Expression.Try p v xs e ys g) f =
         let body = expression_reads (k + 1) (deeper d) e f.3 in
         let handler = expression_reads (k + 1) (deeper d) g f.5 in
         open_open
-        (open_open (block_reads (pieces (deeper d) v) (expression_reads (k + 1) (deeper d) v f.1) d (codes "try") Mark.Try try_word)
+        (open_open (block_reads (pieces (deeper d) v) (expression_reads (k + 1) (deeper d) v f.1) d (codes "try") Mark.Try try_keyword)
         (branch_keeps (pieces (deeper d) e) body d (codes "of") xs)
-        (branch_reads (pieces (deeper d) e) body d (codes "of") Mark.Of xs of_word f.2))
+        (branch_reads (pieces (deeper d) e) body d (codes "of") Mark.Of xs of_keyword f.2))
         (branch_keeps (pieces (deeper d) g) handler d (codes "catch") ys)
-        (branch_reads (pieces (deeper d) g) handler d (codes "catch") Mark.Catch ys catch_word f.4)
+        (branch_reads (pieces (deeper d) g) handler d (codes "catch") Mark.Catch ys catch_keyword f.4)
     expression_reads k d (T.Expression.Do p e g) f =
         let second = expression_reads (k + 1) d g f.2 in
-        open_open (block_reads (pieces (deeper d) e) (expression_reads (k + 1) (deeper d) e f.1) d (codes "do") Mark.Do do_word) (next_keeps (pieces d g) second d) (next_reads (pieces d g) second d)
-    expression_reads k d (T.Expression.Catch p e) f = spaced_reads (pieces d e) (expression_reads (k + 1) d e f.1) (codes "catch") Mark.Catch catch_word
+        open_open (block_reads (pieces (deeper d) e) (expression_reads (k + 1) (deeper d) e f.1) d (codes "do") Mark.Do do_keyword) (next_keeps (pieces d g) second d) (next_reads (pieces d g) second d)
+    expression_reads k d (T.Expression.Catch p e) f = spaced_reads (pieces d e) (expression_reads (k + 1) d e f.1) (codes "catch") Mark.Catch catch_keyword
 
     -- each behind a comma
     all_after : (k d : ℕ) (es : T.Expressions) → AllFit n k es → Open (after_comma (each d es)) (kinds_behind es)
@@ -142,12 +142,12 @@ module _ (n : ℕ) where
       → Closed (head_pieces a es) (λ ks. Kind.Mark Mark.Module ∷ Kind.Atom a ∷ Kind.Mark Mark.OpenSquare ∷ exports_kinds es (Kind.Mark Mark.CloseSquare ∷ ks))
   unfolding head_pieces
   head_ends a es f =
-      closed_closed (closed_closed (closed_closed (open_closed module_word space_starts a_space) (an_atom a f.0)) a_space) (enclosed_ends (codes "[") (codes "]") (map export_pieces es) open_square (exports_read es f.1) (record { apart = λ us. refl }) close_square)
+      closed_closed (closed_closed (closed_closed (open_closed module_keyword space_starts a_space) (an_atom a f.0)) a_space) (enclosed_ends (codes "[") (codes "]") (map export_pieces es) open_square (exports_read es f.1) (record { apart = λ us. refl }) close_square)
 
   attributes_end : (as' : List Attribute) → AttributesFit n as' → Closed (attributes_pieces as') (λ ks. Kind.Mark Mark.Attributes ∷ Kind.Mark Mark.OpenSquare ∷ attributes_kinds as' (Kind.Mark Mark.CloseSquare ∷ ks))
   unfolding attributes_pieces
   attributes_end as' f =
-      closed_closed (open_closed (closed_open (a_line _) attributes_word) space_starts a_space) (enclosed_ends (codes "[") (codes "]") (map attribute_pieces as') open_square (attributes_read as' f) (record { apart = λ us. refl }) close_square)
+      closed_closed (open_closed (closed_open (a_line _) attributes_keyword) space_starts a_space) (enclosed_ends (codes "[") (codes "]") (map attribute_pieces as') open_square (attributes_read as' f) (record { apart = λ us. refl }) close_square)
 
   -- what a module is printed as, and then terminals of the kinds ks
   abbrev then_kinds : T.Module → List Kind → List Kind
@@ -163,8 +163,8 @@ module _ (n : ℕ) where
 
   module_ends : (m : T.Module) → ModuleFits n m → Closed (module_pieces m) (then_kinds m)
   module_ends m f =
-      let front = closed_closed (head_ends m.name m.exports (f.0, f.1, tt, tt)) (attributes_end m.attributes f.2) in
-      open_closed (closed_open (open_closed (closed_open front (definitions_read 1 0 m.definitions f.3)) (line_starts 0) (a_line 0)) end_word) (line_starts 0) (a_line 0)
+      let prefix = closed_closed (head_ends m.name m.exports (f.0, f.1, tt, tt)) (attributes_end m.attributes f.2) in
+      open_closed (closed_open (open_closed (closed_open prefix (definitions_read 1 0 m.definitions f.3)) (line_starts 0) (a_line 0)) end_keyword) (line_starts 0) (a_line 0)
 
   pub printed_kinds : (m : T.Module) → ModuleFits n m → HasKinds (printed m) (module_kinds m)
   printed_kinds m f = subst (λ t. HasKinds t (module_kinds m)) (append-nil (printed m)) ((module_ends m f).read [] [] at_end)

@@ -10,7 +10,7 @@ use Rattle.hipe_terms.proofs.Parts.{and_second}
 use Rattle.core_grammar.specs.Language.{limit, Derives}
 use Rattle.core_grammar.proofs.WellFormed.{derived_are_well_formed}
 use Rattle.core_print.specs.Printed.{printed}
-use Rattle.core_reader.specs.declared.limit.TheConstants.{LEVEL_LIMIT}
+use Rattle.hipe_base.specs.declared.limits.TheConstants.{LEVEL_LIMIT}
 use Rattle.core_reader.specs.declared.refusal.ReadRefusal.{ReadRefusal}
 use Rattle.core_ast.specs.SameTree.{SameTree}
 use Rattle.core_reader.specs.Terminals.{terminals_of}

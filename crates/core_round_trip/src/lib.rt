@@ -3,16 +3,20 @@
 // The text that a module is printed as reads as a module that differs in the places of its parts alone. `specs/Laws` says so of
 // every module that some text reads as, places aside: the module's own places may be any.
 //
+// Promises: what is printed of a module that some text reads as reads back.
+//
+// May touch: memory alone.
+//
 // Files:
-//   law.rt        the law, of texts and modules
+//   laws.rt       the law, of texts and modules
 //   rereading.rt  the same of the printer and the reader
 //   tests.rt      the factorial, read and printed twice
 #![tactic(auto)]
 
-pub mod law;
+pub mod laws;
 pub mod rereading;
 #[cfg(test)]
 mod tests;
 
-pub use law::printed_reads_back;
+pub use laws::printed_reads_back;
 pub use rereading::reread;

@@ -8,7 +8,9 @@ use Rattle.hipe_terms.specs.Order.{order}
 use Rattle.hipe_terms.specs.Range.{is_in_range}
 use Rattle.hipe_terms.specs.declared.bif.Bif.{Bif}
 use Rattle.hipe_terms.specs.declared.bif.Bif.TheVariants.{Add, Subtract, Multiply, Negate, Divide, Remainder, BitAnd, BitOr, BitXor, BitNot, ShiftLeft, ShiftRight, Equal, NotEqual, ExactlyEqual, ExactlyNotEqual, LessThan, AtMost, GreaterThan, AtLeast, And, Or, Not, IsInteger, IsNumber, IsAtom, IsBoolean, IsList, IsTuple, IsFunction, IsFunctionOfArity, Head, Tail, Length, Append, Element, SetElement, TupleSize, Error, Throw, Exit, Display}
-use Rattle.hipe_terms.specs.Outcome.{Class, error, exit, throw, End, Outcome, gives, raises, badarith, system_limit, number, truth, arithmetic, negated, divided, remainder, bitwise, bits_turned, shifted_left, shifted_right, boolean_of, boolean_at, boolean, negation_at, negation, is_integer, is_atom, is_list, is_tuple, is_fun, has_arity_at, has_arity, head, tail, elements, length_at, length_of, appended_at, appended, nth, with_nth, element_at, element, element_set_at, element_set, size_of, displayed, unary, binary, ternary, bif_outcome}
+use Rattle.hipe_terms.specs.Outcome.{End, Outcome, gives, raises, badarith, system_limit, number, truth, arithmetic, negated, divided, remainder, bitwise, bits_turned, shifted_left, shifted_right, boolean_of, boolean_at, boolean, negation_at, negation, is_integer, is_atom, is_list, is_tuple, is_fun, has_arity_at, has_arity, head, tail, elements, length_at, length_of, appended_at, appended, nth, with_nth, element_at, element, element_set_at, element_set, size_of, displayed, unary, binary, ternary, bif_outcome}
+use Rattle.hipe_terms.specs.declared.class.Class.{Class}
+use Rattle.hipe_terms.specs.declared.class.Class.TheVariants as classes
 use Rattle.core_meaning.specs.Procedures.{Program}
 use Rattle.core_soundness.proofs.Terms.{GoodTerm, GoodTerms, AllGood, cells_good}
 
@@ -216,7 +218,7 @@ module _ (program : Program) where
   outcome_good arities Element ts g = binary_gives element ts (λ t u _ g. element_gives t u g) g
   outcome_good arities SetElement ts g = ternary_gives element_set ts (λ t u v _ g h. element_set_gives t u v g h) g
   outcome_good arities TupleSize ts g = unary_gives size_of ts (λ t _. size_gives t) g
-  outcome_good arities Error ts g = raising error ts g
-  outcome_good arities Throw ts g = raising throw ts g
-  outcome_good arities Exit ts g = raising exit ts g
+  outcome_good arities Error ts g = raising classes.Error ts g
+  outcome_good arities Throw ts g = raising classes.Throw ts g
+  outcome_good arities Exit ts g = raising classes.Exit ts g
   outcome_good arities Display ts g = unary_gives displayed ts (λ t _. tt) g

@@ -171,7 +171,7 @@ below_at true o n k f is = subst (λ k. k < suc n) (some_same 0 k is) (omega ari
 below_at false None n k f is = absurd (not_some is)
 below_at false (Some j) n k f is = subst (λ k. k < suc n) (some_same (suc j) k is) (omega (arith, f j refl))
 
--- a place is below the length
+-- a position is below the length
 pub position_below : (i : ℕ) (js : List ℕ) (k : ℕ) → position i js ≡ Some k → k < length js
 position_below i [] k is = absurd (not_some is)
 position_below i (j ∷ js) k is = below_at (i == j) (position i js) (length js) k (position_below i js) is

@@ -28,7 +28,7 @@ use Rattle.core_soundness.proofs.Modules.{module_good, exported_stands}
 use Rattle.core_soundness.proofs.Steps.{Sound, cond_sound, bool_sound, option_sound, builds_sound, count_sound, NextSound, HandlerSound, CallSound, match_sound, one_sound, value_sound, no_clause_sound, fun_sound, Applicable, named_sound, caught_sound, causes_sound, primop_sound, ExportsStand, applies_sound, applies_named_sound, calls_sound}
 
 module _ (program : Program) where
-  -- the values in force at a place: good terms, one for each variable of a scope that has these names
+  -- the values in force in a context: good terms, one for each variable of a scope that has these names
   pub record Holds (n : Names) (s : Scope) (ts : List Term) : Type 0 where
     pub sited : Sited program n s (length ts)
     pub good : AllGood program ts

@@ -5,12 +5,17 @@ use Rattle.hipe_terms.specs.Terms.{Term, integer, atom, nil, cons, tuple, fun, t
 use Rattle.hipe_terms.specs.Bifs.{built_in}
 use Rattle.hipe_terms.specs.declared.bif.Bif.{Bif}
 use Rattle.hipe_terms.specs.declared.bif.Bif.TheVariants.{Error, Throw, Exit}
-use Rattle.hipe_terms.specs.Outcome.{Class, error, exit, throw, End, Outcome, bif_outcome}
+use Rattle.hipe_terms.specs.Outcome.{End, Outcome, bif_outcome}
+use Rattle.hipe_terms.specs.declared.class.Class.{Class}
+use Rattle.hipe_terms.specs.declared.primop.Primop.{Primop}
+use Rattle.hipe_terms.specs.declared.primop.Primop.TheVariants.{Raise, MatchFail, BuildStacktrace}
+use Rattle.hipe_terms.specs.Primops.{primop_named}
+use Rattle.hipe_terms.specs.declared.class.Class.TheVariants as classes
 use Rattle.core_ast.specs.declared.tree.FunName.{FunName}
-use Rattle.core_ast.specs.Degrees.{is_raising_call, is_raising_primop}
-use Rattle.core_ast.specs.Rules.{is_primop}
+use Rattle.core_ast.specs.Degrees.{is_raising_call, is_raising_primop, raises_only}
+use Rattle.core_ast.specs.Rules.{is_primop, takes}
 use Rattle.core_meaning.specs.Procedures.{Procedure, Program}
-use Rattle.core_meaning.specs.Meaning.{State, Ending, Run, ends, Limits, Next, Handler, Calls, passes, worked, printing, builds, fails, with_one, with_count, with_value, class_of, class_atom, no_clause_for, makes_fun, makes_named, caught, causes, raises_as, raise, is_function_clause, match_fail, build_stacktrace, primop, parameters_of, arity_of, own_function, exported, applies_named, comes_to, performs, applies, calls_own, calls}
+use Rattle.core_meaning.specs.Meaning.{State, Ending, Run, ends, Limits, Next, Handler, Calls, passes, worked, printing, builds, fails, with_one, with_count, with_value, class_of, class_atom, no_clause_for, makes_fun, makes_named, caught, causes, raises_as, raise, is_function_clause, match_fail, build_stacktrace, primop, operation, parameters_of, arity_of, own_function, exported, applies_named, comes_to, performs, applies, calls_own, calls}
 use Rattle.core_soundness.proofs.Basics.{some_same, not_some, not_true, both_parts, same_bytes, same_numbers, numbers_same}
 use Rattle.core_soundness.proofs.Modules.{if_there}
 use Rattle.core_soundness.proofs.Terms.{Captures, GoodTerm, AllGood, terms_good, listed_good, cells_good, count_terms, length_listed}
@@ -94,9 +99,9 @@ module _ (program : Program) where
 
   pub no_clause_sound : (limits : Limits) (ts : List Term) (s : State) (r : Handler) → AllGood program ts → HandlerSound r → Sound (no_clause_for limits ts s r)
   unfolding no_clause_for
-  no_clause_sound limits [] s r g gr = builds_sound limits _ s _ (λ s. gr error _ s (tt, (tt, tt)))
-  no_clause_sound limits (t ∷ []) s r g gr = builds_sound limits _ s _ (λ s. gr error _ s (tt, (g.0, tt)))
-  no_clause_sound limits (t ∷ u ∷ ts) s r g gr = builds_sound limits _ s _ (λ s. gr error _ s (tt, (terms_good program (t ∷ u ∷ ts) g, tt)))
+  no_clause_sound limits [] s r g gr = builds_sound limits _ s _ (λ s. gr classes.Error _ s (tt, (tt, tt)))
+  no_clause_sound limits (t ∷ []) s r g gr = builds_sound limits _ s _ (λ s. gr classes.Error _ s (tt, (g.0, tt)))
+  no_clause_sound limits (t ∷ u ∷ ts) s r g gr = builds_sound limits _ s _ (λ s. gr classes.Error _ s (tt, (terms_good program (t ∷ u ∷ ts) g, tt)))
 
   pub fun_sound : (limits : Limits) (n : ℕ) (o : Option (List Term)) (us : List Term) (s : State) (k : Next) → o ≡ Some us → Captures program n (length us) → AllGood program us → NextSound (Some 1) k → Sound (makes_fun limits n o s k)
   unfolding makes_fun
@@ -122,14 +127,14 @@ module _ (program : Program) where
 
   pub caught_sound : (limits : Limits) (class : Class) (t : Term) (s : State) (k : Next) → GoodTerm program t → NextSound (Some 1) k → Sound (caught limits class t s k)
   unfolding caught
-  caught_sound limits error t s k g gk = builds_sound limits _ s _ (λ s. gk _ s refl ((tt, ((g, (tt, tt)), tt)), tt))
-  caught_sound limits exit t s k g gk = builds_sound limits _ s _ (λ s. gk _ s refl ((tt, (g, tt)), tt))
-  caught_sound limits throw t s k g gk = gk (t ∷ []) s refl (g, tt)
+  caught_sound limits classes.Error t s k g gk = builds_sound limits _ s _ (λ s. gk _ s refl ((tt, ((g, (tt, tt)), tt)), tt))
+  caught_sound limits classes.Exit t s k g gk = builds_sound limits _ s _ (λ s. gk _ s refl ((tt, (g, tt)), tt))
+  caught_sound limits classes.Throw t s k g gk = gk (t ∷ []) s refl (g, tt)
 
   class_good : (class : Class) → GoodTerm program (class_atom class)
-  class_good error = tt
-  class_good exit = tt
-  class_good throw = tt
+  class_good classes.Error = tt
+  class_good classes.Exit = tt
+  class_good classes.Throw = tt
 
   no_causes : (n : ℕ) → SuitCauses n → (n ≡ 0) ⊎ ((n ≡ 1) ⊎ (3 < n)) → ⊥
   no_causes n (inl p) (inl q) = omega (arith, p, q)
@@ -150,7 +155,7 @@ module _ (program : Program) where
   -- ---- primitive operations
 
   raises_as_sound : (o : Option Class) (t : Term) (s : State) (r : Handler) → GoodTerm program t → HandlerSound r → Sound (raises_as o t s r)
-  raises_as_sound None t s r g gr = gr error _ s tt
+  raises_as_sound None t s r g gr = gr classes.Error _ s tt
   raises_as_sound (Some class) t s r g gr = gr class t s g
 
   raise_sound : (ts : List Term) (s : State) (r : Handler) → length ts ≡ 2 → AllGood program ts → HandlerSound r → Sound (raise ts s r)
@@ -161,7 +166,7 @@ module _ (program : Program) where
 
   match_fail_sound : (ts : List Term) (s : State) (r : Handler) → length ts ≡ 1 → AllGood program ts → HandlerSound r → Sound (match_fail ts s r)
   match_fail_sound [] s r is g gr = absurd (let wrong : ⊥ = omega (arith, is) in wrong)
-  match_fail_sound (t ∷ []) s r is g gr = cond_sound (is_function_clause t) (fails (codes "function_clause") s r) (r error t s) (λ _. gr error _ s tt) (λ _. gr error t s g.0)
+  match_fail_sound (t ∷ []) s r is g gr = cond_sound (is_function_clause t) (fails (codes "function_clause") s r) (r classes.Error t s) (λ _. gr classes.Error _ s tt) (λ _. gr classes.Error t s g.0)
   match_fail_sound (t ∷ u ∷ ts) s r is g gr = absurd (let wrong : ⊥ = omega (arith, is) in wrong)
 
   stacktrace_sound : (ts : List Term) (s : State) (k : Next) → length ts ≡ 1 → NextSound (Some 1) k → Sound (build_stacktrace ts s k)
@@ -169,51 +174,17 @@ module _ (program : Program) where
   stacktrace_sound (t ∷ []) s k is gk = gk (nil ∷ []) s refl (tt, tt)
   stacktrace_sound (t ∷ u ∷ ts) s k is gk = absurd (let wrong : ⊥ = omega (arith, is) in wrong)
 
-  abbrev degree_of_primop : List ℕ → Option ℕ
-  degree_of_primop f = if is_raising_primop f then None else Some 1
-
-  or_false : (a : Bool) → ((a || false) || false) ≡ true → a ≡ true
-  or_false true p = refl
-  or_false false p = p
-
-  or_false_once : (a : Bool) → (a || false) ≡ true → a ≡ true
-  or_false_once true p = refl
-  or_false_once false p = p
-
-  primop_at_raise : (n : ℕ) (ts : List Term) (s : State) (r : Handler) (k : Next) → is_primop (codes "raise") n ≡ true → length ts ≡ n → AllGood program ts → HandlerSound r → Sound (primop (codes "raise") ts s r k)
-  unfolding primop
-  primop_at_raise n ts s r k known size g gr = raise_sound ts s r (size ∙ same_numbers n 2 (or_false (n == 2) known)) g gr
-
-  primop_at_match_fail : (n : ℕ) (ts : List Term) (s : State) (r : Handler) (k : Next) → is_primop (codes "match_fail") n ≡ true → length ts ≡ n → AllGood program ts → HandlerSound r → Sound (primop (codes "match_fail") ts s r k)
-  unfolding primop
-  primop_at_match_fail n ts s r k known size g gr = match_fail_sound ts s r (size ∙ same_numbers n 1 (or_false_once (n == 1) known)) g gr
-
-  primop_at_stacktrace : (n : ℕ) (ts : List Term) (s : State) (r : Handler) (k : Next) → is_primop (codes "build_stacktrace") n ≡ true → length ts ≡ n → NextSound (Some 1) k → Sound (primop (codes "build_stacktrace") ts s r k)
-  unfolding primop
-  primop_at_stacktrace n ts s r k known size gk = stacktrace_sound ts s k (size ∙ same_numbers n 1 known) gk
-
-  primop_unknown : (a b c x y z : Bool) → a ≡ false → b ≡ false → c ≡ false → (((a && x) || (b && y)) || (c && z)) ≡ true → ⊥
-  primop_unknown false false false x y z p q t is = not_true is
-  primop_unknown true b c x y z p q t is = not_true (sym p)
-  primop_unknown false true c x y z p q t is = not_true (sym q)
-  primop_unknown false false true x y z p q t is = not_true (sym t)
-
-  primop_cases : (a b c : Bool) (f : List ℕ) (n : ℕ) (ts : List Term) (s : State) (r : Handler) (k : Next) → bytes_eq f (codes "raise") ≡ a → bytes_eq f (codes "match_fail") ≡ b → bytes_eq f (codes "build_stacktrace") ≡ c
-      → is_primop f n ≡ true → length ts ≡ n → AllGood program ts → HandlerSound r → NextSound (degree_of_primop f) k → Sound (primop f ts s r k)
-  primop_cases true b c f n ts s r k p q t known size g gr gk =
-      let e = same_bytes f (codes "raise") p in subst (λ f. Sound (primop f ts s r k)) (sym e) (primop_at_raise n ts s r k (subst (λ f. is_primop f n ≡ true) e known) size g gr)
-  primop_cases false true c f n ts s r k p q t known size g gr gk =
-      let e = same_bytes f (codes "match_fail") q in subst (λ f. Sound (primop f ts s r k)) (sym e) (primop_at_match_fail n ts s r k (subst (λ f. is_primop f n ≡ true) e known) size g gr)
-  primop_cases false false true f n ts s r k p q t known size g gr gk =
-      let e = same_bytes f (codes "build_stacktrace") t in
-      subst (λ f. Sound (primop f ts s r k)) (sym e)
-      (primop_at_stacktrace n ts s r k (subst (λ f. is_primop f n ≡ true) e known) size (λ ts s is g. gk ts s (ap degree_of_primop e ∙ is) g))
-  primop_cases false false false f n ts s r k p q t known size g gr gk =
-      absurd (primop_unknown (bytes_eq f (codes "raise")) (bytes_eq f (codes "match_fail")) (bytes_eq f (codes "build_stacktrace")) (n == 2) (n == 1) (n == 1) p q t known)
+  operation_sound : (o : Option Primop) (n : ℕ) (ts : List Term) (s : State) (r : Handler) (k : Next) → takes o n ≡ true → length ts ≡ n → AllGood program ts → HandlerSound r → NextSound (if raises_only o then None else Some 1) k
+      → Sound (operation o ts s r k)
+  operation_sound None n ts s r k known size g gr gk = absurd (not_true known)
+  operation_sound (Some Raise) n ts s r k known size g gr gk = raise_sound ts s r (size ∙ same_numbers n 2 known) g gr
+  operation_sound (Some MatchFail) n ts s r k known size g gr gk = match_fail_sound ts s r (size ∙ same_numbers n 1 known) g gr
+  operation_sound (Some BuildStacktrace) n ts s r k known size g gr gk = stacktrace_sound ts s k (size ∙ same_numbers n 1 known) gk
 
   pub primop_sound : (f : List ℕ) (n : ℕ) (ts : List Term) (s : State) (r : Handler) (k : Next) → is_primop f n ≡ true → length ts ≡ n → AllGood program ts → HandlerSound r → NextSound (if is_raising_primop f then None else Some 1) k
       → Sound (primop f ts s r k)
-  primop_sound f n ts s r k known size g gr gk = primop_cases (bytes_eq f (codes "raise")) (bytes_eq f (codes "match_fail")) (bytes_eq f (codes "build_stacktrace")) f n ts s r k refl refl refl known size g gr gk
+  unfolding primop
+  primop_sound f n ts s r k known size g gr gk = operation_sound (primop_named f) n ts s r k known size g gr gk
 
   -- ---- applications
 
@@ -290,12 +261,12 @@ module _ (program : Program) where
         let c = g.0 in
         cond_sound (nat_eq (arity_of program n) (length ts)) _ _
         (λ fits. call_sound n (listed us) ts d s r k c.0 c.1 (c.2 ∙ sym (length_listed us)) (sym (ap parameters_of c.1) ∙ same_numbers (arity_of program n) (length ts) fits) (listed_good program us g.1) h gr gk)
-        (λ _. builds_sound limits _ s _ (λ s. gr error _ s (tt, ((g, (cells_good program ts nil h tt, tt)), tt))))
-    applies_sound (integer i) ts d s r k g h gr gk = builds_sound limits _ s _ (λ s. gr error _ s (tt, (g, tt)))
-    applies_sound (atom a) ts d s r k g h gr gk = builds_sound limits _ s _ (λ s. gr error _ s (tt, (g, tt)))
-    applies_sound nil ts d s r k g h gr gk = builds_sound limits _ s _ (λ s. gr error _ s (tt, (g, tt)))
-    applies_sound (cons a b) ts d s r k g h gr gk = builds_sound limits _ s _ (λ s. gr error _ s (tt, (g, tt)))
-    applies_sound (tuple us) ts d s r k g h gr gk = builds_sound limits _ s _ (λ s. gr error _ s (tt, (g, tt)))
+        (λ _. builds_sound limits _ s _ (λ s. gr classes.Error _ s (tt, ((g, (cells_good program ts nil h tt, tt)), tt))))
+    applies_sound (integer i) ts d s r k g h gr gk = builds_sound limits _ s _ (λ s. gr classes.Error _ s (tt, (g, tt)))
+    applies_sound (atom a) ts d s r k g h gr gk = builds_sound limits _ s _ (λ s. gr classes.Error _ s (tt, (g, tt)))
+    applies_sound nil ts d s r k g h gr gk = builds_sound limits _ s _ (λ s. gr classes.Error _ s (tt, (g, tt)))
+    applies_sound (cons a b) ts d s r k g h gr gk = builds_sound limits _ s _ (λ s. gr classes.Error _ s (tt, (g, tt)))
+    applies_sound (tuple us) ts d s r k g h gr gk = builds_sound limits _ s _ (λ s. gr classes.Error _ s (tt, (g, tt)))
 
     pub applies_named_sound : (o : Option (ℕ × List Term)) (ts : List Term) (d : ℕ) (s : State) (r : Handler) (k : Next) → Applicable o (length ts) → AllGood program ts → HandlerSound r → NextSound (Some 1) k → Sound (applies_named call o ts d s r k)
     unfolding applies_named
@@ -304,7 +275,7 @@ module _ (program : Program) where
 
     module _ (exports : ExportsStand) where
       own_sound : (m f : List ℕ) (o : Option ℕ) (ts : List Term) (d : ℕ) (s : State) (r : Handler) (k : Next) → own_function program m f (length ts) ≡ o → AllGood program ts → HandlerSound r → NextSound (Some 1) k → Sound (calls_own program limits call o ts d s r k)
-      own_sound m f None ts d s r k is g gr gk = gr error _ s tt
+      own_sound m f None ts d s r k is g gr gk = gr classes.Error _ s tt
       own_sound m f (Some n) ts d s r k is g gr gk =
           let h = exports (record { name = f; arity = length ts }) n (if_there (bytes_eq m program.name) (exported program (record { name = f; arity = length ts })) n is) in
           call_sound n [] ts d s r k h.procedure h.found h.captured h.parameters tt g gr gk

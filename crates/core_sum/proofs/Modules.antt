@@ -6,7 +6,7 @@ use Rattle.std.proofs.lemmas.Bool.Decides.{nat_tests}
 use Rattle.std.proofs.lemmas.Slice.Eq.{bytes_eq-Decides}
 use Rattle.std.proofs.lemmas.Grind.{flat_map-append}
 use Rattle.hipe_terms.specs.declared.place.Place.{Place}
-use Rattle.core_ast.specs.declared.limits.TheConstants.{NODE_LIMIT}
+use Rattle.hipe_base.specs.declared.limits.TheConstants.{NODE_LIMIT}
 use Rattle.core_ast.specs.declared.pattern.Var.{Var}
 use Rattle.core_ast.specs.declared.tree.FunName.{FunName}
 use Rattle.core_ast.specs.declared.rule.Rule.{Rule}

@@ -7,9 +7,9 @@ ghost use Rattle.core_sum.specs.Sums.{HasSmallIntegers, count_of};
 ghost use Rattle.core_sum.specs.Form.{IsSumModule, IsSumRefusal};
 ghost use Rattle.core_sum.specs.Made.{Finds, sum_in, alone, sum_of_definitions};
 
+use crate::name::{has_main, is_main};
 use crate::part::sum_in;
 use crate::sum::{MOST_INTEGERS, Sum, SumRefusal};
-use crate::word::{has_main, is_main};
 use core_ast::{FunDef, GoodModule};
 use std::alloc::Global;
 
@@ -52,8 +52,8 @@ fn sum_of_functions(alloc: Global, defs: &[FunDef]) -> Result<Sum, SumRefusal>
 ///
 /// # Errors
 ///
-/// - `NotExported` exactly where the exports don't hold `'main'/0`.
-/// - `NotYet` exactly where they do and some part isn't of the form: a function other than `'main'/0`, or an expression that isn't
+/// - `NotExported` if and only if the exports don't hold `'main'/0`.
+/// - `NotYet` if and only if they do and some part isn't of the form: a function other than `'main'/0`, or an expression that isn't
 ///   made so. It has the place of the first such part in the order of the text.
 /// - `Memory` where memory runs out.
 pub fn sum_of(alloc: Global, m: &GoodModule) -> Result<Sum, SumRefusal>

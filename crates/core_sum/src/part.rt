@@ -4,11 +4,12 @@ ghost use Rattle.std.specs.Prelude.{◌≡◌, [], ◌∷◌, map, IfOk};
 ghost use Rattle.core_ast.specs.Trees.{expression_of, expressions};
 ghost use Rattle.core_sum.specs.Made.{small, added, sum_in, sums_in};
 
+use crate::name::is_addition;
 use crate::sum::Sum;
-use crate::word::is_addition;
 use core_ast::{Expr, Node};
+use hipe_base::Memory;
 use sqlite_items::Boxed;
-use std::alloc::{AllocError, Global};
+use std::alloc::Global;
 
 // How far from 0 an integer of a sum goes.
 const MOST: i64 = 999_999;
@@ -27,7 +28,7 @@ fn small(n: i64) -> Option<Sum>
 
 // The sum of two parts.
 #[tactic(auto, using(crate::proofs::Levels::made))]
-fn plus(alloc: Global, left: Option<Sum>, right: Option<Sum>) -> Result<Option<Sum>, AllocError>
+fn plus(alloc: Global, left: Option<Sum>, right: Option<Sum>) -> Result<Option<Sum>, Memory>
     ensures { IfOk result (λ sum. sum ≡ added (left ∷ right ∷ [])) }
 {
     match (left, right) {
@@ -42,7 +43,7 @@ fn plus(alloc: Global, left: Option<Sum>, right: Option<Sum>) -> Result<Option<S
 /// The sum that an expression is made as, or none where it isn't made of small integers and calls of `erlang:'+'`.
 #[cycle(sum)]
 #[tactic(auto, using(crate::proofs::Parts::parts))]
-pub fn sum_in(alloc: Global, e: &Expr) -> Result<Option<Sum>, AllocError>
+pub fn sum_in(alloc: Global, e: &Expr) -> Result<Option<Sum>, Memory>
     ensures { IfOk result (λ sum. sum ≡ sum_in (expression_of e.now)) }
 {
     match &e.node {
@@ -55,7 +56,7 @@ pub fn sum_in(alloc: Global, e: &Expr) -> Result<Option<Sum>, AllocError>
 // The sum of these two parts.
 #[cycle(sum)]
 #[tactic(auto, using(crate::proofs::Parts::parts))]
-fn addition(alloc: Global, parts: &[Expr]) -> Result<Option<Sum>, AllocError>
+fn addition(alloc: Global, parts: &[Expr]) -> Result<Option<Sum>, Memory>
     ensures { IfOk result (λ sum. sum ≡ added (sums_in (expressions (map expression_of parts.now)))) }
 {
     if parts.len() != 2 {

@@ -4,11 +4,11 @@ ghost use Rattle.std.specs.Prelude.{◌*◌};
 ghost use Rattle.core_sum.specs.declared.sum.Sum.{Sum as ASum};
 ghost use Rattle.core_sum.specs.Sums.{count_of, value, HasSmallIntegers, IsWithin};
 
+use hipe_base::Memory;
 use hipe_terms::Place;
 use sqlite_items::Boxed;
-use std::alloc::AllocError;
 
-/// The most integers of a sum that a function of a good module has: a function has at most 65,535 nodes, and each integer
+/// The most integers of a sum that a function of a good module has: a function has at most `NODE_LIMIT` nodes, and each integer
 /// but the first comes with a call.
 pub const MOST_INTEGERS: u64 = 32_768;
 
@@ -32,13 +32,13 @@ pub enum SumRefusal {
     Memory,
 }
 
-impl From<AllocError> for SumRefusal {
+impl From<Memory> for SumRefusal {
     ghost use Rattle.core_sum.specs.declared.sum.SumRefusal.TheVariants.{Memory};
     ghost use Rattle.std.specs.Prelude.{◌≡◌};
 
     ghost from_gives = { λ _ refusal. refusal ≡ Memory };
 
-    fn from(_error: AllocError) -> SumRefusal {
+    fn from(_error: Memory) -> SumRefusal {
         SumRefusal::Memory
     }
 }

@@ -8,8 +8,8 @@ use Rattle.core_text.specs.Bytes.{is_from, is_continuation}
 use Rattle.core_text.specs.Utf8.{sequence_of, goes_on, longer_length, character_length}
 use Rattle.core_text.specs.declared.code_point.CodePoint.{CodePoint}
 use Rattle.core_text.specs.CodePoints.{point, first_bits, with_bits, decoded}
-use Rattle.core_text.proofs.Fronts.{count_some}
-use Rattle.core_text.specs.Fronts.{AreAll, BeginsWith}
+use Rattle.core_text.proofs.Prefixes.{count_some}
+use Rattle.core_text.specs.Prefixes.{AreAll, BeginsWith}
 use Rattle.core_text.specs.Characters.{IsCharacter}
 
 -- the bytes of characters of two, three and four bytes
@@ -197,30 +197,30 @@ abbrev pub Decoded : ℕ → List ℕ → ℕ → List ℕ → List ℕ → Type
 Decoded c t n cs us = IsCharacter (with_bits (first_bits c) (take (n - 1) t)) cs
 
 shaped : (c : ℕ) (t : List ℕ) (n : ℕ) → Shape c t n → BeginsWith (Decoded c t n) (c ∷ t) n
-shaped c t n (one h) = record { front = c ∷ []; rest = t; is = refl; size = refl; holds = subst (λ v. IsCharacter v (c ∷ [])) (sym (bits_one c h)) (one_is c h) }
+shaped c t n (one h) = record { prefix = c ∷ []; rest = t; is = refl; size = refl; holds = subst (λ v. IsCharacter v (c ∷ [])) (sym (bits_one c h)) (one_is c h) }
 shaped c t n (two {d = d} {t = u} h) = record {
-  front = c ∷ d ∷ [];
+  prefix = c ∷ d ∷ [];
   rest = u;
   is = refl;
   size = refl;
   holds = subst (λ b. IsCharacter (b * 64 + (d - 128)) (c ∷ d ∷ [])) (sym (bits_two c d h)) (two_is c d h);
 }
 shaped c t n (three {d = d} {e = e} {t = u} h) = record {
-  front = c ∷ d ∷ e ∷ [];
+  prefix = c ∷ d ∷ e ∷ [];
   rest = u;
   is = refl;
   size = refl;
   holds = subst (λ b. IsCharacter ((b * 64 + (d - 128)) * 64 + (e - 128)) (c ∷ d ∷ e ∷ [])) (sym (bits_three c d e h)) (three_is c d e h);
 }
 shaped c t n (four {d = d} {e = e} {f = f} {t = u} h) = record {
-  front = c ∷ d ∷ e ∷ f ∷ [];
+  prefix = c ∷ d ∷ e ∷ f ∷ [];
   rest = u;
   is = refl;
   size = refl;
   holds = subst (λ b. IsCharacter (((b * 64 + (d - 128)) * 64 + (e - 128)) * 64 + (f - 128)) (c ∷ d ∷ e ∷ f ∷ [])) (sym (bits_four c d e f h)) (four_is c d e f h);
 }
 
--- a continuation at the front
+-- a continuation at the beginning
 abbrev pub Continues : ℕ → List ℕ → Type 0
 Continues k s = (e : ℕ) × (t : List ℕ) × (s ≡ e ∷ t) × (128 ≤ e) × (e ≤ 191) × (k ≤ prefix_len is_continuation t)
 
@@ -369,7 +369,7 @@ first_shape : (c : ℕ) (t : List ℕ) (n : ℕ) (b : Bool) → nat_le c 127 ≡
 first_shape c t n true is h = subst (λ n. Shape c t n) (sym (some_same 1 n (Some 1) refl h)) (one (grind (arith, nat_tests)))
 first_shape c t n false is h = longer_shape c t n h
 
--- the character at the front is decoded as its code point
+-- the character at the beginning is decoded as its code point
 pub decoded_there : (c : ℕ) (t : List ℕ) (n : ℕ) → character_length (c ∷ t) ≡ Some n → BeginsWith (Decoded c t n) (c ∷ t) n
 unfolding character_length
 decoded_there c t n h = shaped c t n (first_shape c t n (nat_le c 127) refl h)
@@ -437,7 +437,7 @@ four_taken_by c d e f us t (inr (inr h)) (inr (inl k)) =
     long c d 4 (e ∷ f ∷ us) q (omega (arith, h)) is t.second_low (t.at_244 k) (four_more e f us t.third_low t.third_high t.fourth_low t.fourth_high) refl
 four_taken_by c d e f us t (inr (inr h)) (inr (inr k)) = absurd (omega (arith, t.first_high, k))
 
--- the character at the front of a text that goes on, decoded
+-- the character at the beginning of a text that goes on, decoded
 abbrev pub decode : List ℕ → List ℕ → Option CodePoint
 decode [] us = None
 decode (c ∷ t) us = decoded (character_length (c ∷ t ++ us)) c (t ++ us)

@@ -7,32 +7,23 @@ use Rattle.std.proofs.lemmas.List.{take_at, drop_at}
 use Rattle.core_text.specs.declared.escape.Escape.{Escape}
 use Rattle.core_text.specs.Bytes.{is_from, is_octal, is_hex, begins, number_from}
 use Rattle.core_text.specs.Escapes.{simple_escape, is_scalar, octal_escape, control_escape, braced_escape, hex_escape, longer_escape, escape_by, escape_at}
-use Rattle.core_text.specs.Fronts.{AreAll, BeginsWith}
+use Rattle.core_text.specs.Prefixes.{AreAll, BeginsWith}
 use Rattle.core_text.specs.Characters.{IsEscape, simple, octal, control, hexadecimal, braced}
-use Rattle.core_text.proofs.Fronts.{passing, count, count_some, up_to, begins_less}
+use Rattle.core_text.proofs.Standing.{is_equal, split, Stands, stands}
+use Rattle.core_text.proofs.Prefixes.{passing, count, count_some, up_to, begins_less}
 
 abbrev escape : ℕ → ℕ → Option Escape
 escape v n = Some (record { value = v; length = n })
 
 -- an escape that is read is there
 abbrev pub There : List ℕ → Option Escape → Type 0
-There s r = (e : Escape) → r ≡ Some e → BeginsWith (IsEscape e.value) s e.length
-
-same_escape : (d e : Escape) (r : Option Escape) → r ≡ Some d → r ≡ Some e → d ≡ e
-same_escape d e r f g = cc
+There s r = Stands {X = Escape} (λ e. e.value) (λ e. e.length) IsEscape s r
 
 there : (s : List ℕ) (v n : ℕ) → BeginsWith (IsEscape v) s n → There s (escape v n)
-there s v n b e is = subst (λ e. BeginsWith (IsEscape e.value) s e.length) (same_escape (record { value = v; length = n }) e (escape v n) refl is) b
+there s v n b = stands {X = Escape} (λ e. e.value) (λ e. e.length) IsEscape s (record { value = v; length = n }) b
 
 not_there : (s : List ℕ) → There s None
 not_there s e is = absurd (cc)
-
-split : (s : List ℕ) (b : Bool) (x y : Option Escape) → (b ≡ true → There s x) → (b ≡ false → There s y) → There s (cond b x y)
-split s true x y f g = f refl
-split s false x y f g = g refl
-
-is_equal : (a b : ℕ) → nat_eq a b ≡ true → b ≡ a
-is_equal a b h = grind (arith, nat_tests)
 
 is_some : (n : ℕ) → nat_eq n 0 ≡ false → 0 < n
 is_some n h = grind (arith, nat_tests)
@@ -41,20 +32,20 @@ octal_there : (s : List ℕ) → There s (octal_escape s)
 octal_there s =
     let n = min 3 (prefix_len is_octal s) in
     let u = up_to 3 is_octal s in
-    split s (nat_eq n 0) _ _ (λ _. not_there s)
+    split (There s) (nat_eq n 0) _ _ (λ _. not_there s)
     (λ is. there s (number_from 8 0 (take n s)) n
     (record {
-      front = u.front;
+      prefix = u.prefix;
       rest = u.rest;
       is = u.is;
       size = u.size;
-      holds = subst (λ ds. IsEscape (number_from 8 0 ds) u.front u.rest) (sym (ap (take n) u.is ∙ take_at u.front u.rest n u.size))
-          (octal u.front u.rest u.holds.0 (omega (arith, is_some n is, u.size)) u.holds.1 u.holds.2);
+      holds = subst (λ ds. IsEscape (number_from 8 0 ds) u.prefix u.rest) (sym (ap (take n) u.is ∙ take_at u.prefix u.rest n u.size))
+          (octal u.prefix u.rest u.holds.0 (omega (arith, is_some n is, u.size)) u.holds.1 u.holds.2);
     }))
 
 control_there : (s : List ℕ) → There (94 ∷ s) (control_escape s)
 control_there [] = not_there _
-control_there (c ∷ s) = split _ (is_from 64 95 c) _ _ (λ is. there _ (c - 64) 2 (record { front = 94 ∷ c ∷ []; rest = s; is = refl; size = refl; holds = control is })) (λ _. not_there _)
+control_there (c ∷ s) = split (There _) (is_from 64 95 c) _ _ (λ is. there _ (c - 64) 2 (record { prefix = 94 ∷ c ∷ []; rest = s; is = refl; size = refl; holds = control is })) (λ _. not_there _)
 
 scalar_is : (v : ℕ) → is_scalar v ≡ true → IsScalar v
 scalar_is v h = grind (arith, nat_tests)
@@ -72,21 +63,21 @@ braced_there s =
     let n = prefix_len is_hex s in
     let v = number_from 16 0 (take n s) in
     let u = passing is_hex s in
-    split _ (nat_eq n 0) _ _ (λ _. not_there _)
-    (λ some. split _ (begins (λ c. nat_eq c 125) (drop n s)) _ _
-    (λ brace. split _ (is_scalar v) _ _
+    split (There _) (nat_eq n 0) _ _ (λ _. not_there _)
+    (λ some. split (There _) (begins (λ c. nat_eq c 125) (drop n s)) _ _
+    (λ brace. split (There _) (is_scalar v) _ _
     (λ scalar.
     let k = closed_by (drop n s) brace in
-    let rest : u.rest ≡ 125 ∷ k.0 = sym (drop_at u.front u.rest n u.size) ∙ sym (ap (drop n) u.is) ∙ k.1 in
-    let digits : take n s ≡ u.front = ap (take n) u.is ∙ take_at u.front u.rest n u.size in
+    let rest : u.rest ≡ 125 ∷ k.0 = sym (drop_at u.prefix u.rest n u.size) ∙ sym (ap (drop n) u.is) ∙ k.1 in
+    let digits : take n s ≡ u.prefix = ap (take n) u.is ∙ take_at u.prefix u.rest n u.size in
     there _ v (n + 3)
     (record {
-      front = 120 ∷ 123 ∷ u.front ++ 125 ∷ [];
+      prefix = 120 ∷ 123 ∷ u.prefix ++ 125 ∷ [];
       rest = k.0;
-      is = ap (λ t. 120 ∷ 123 ∷ t) (u.is ∙ ap (λ t. u.front ++ t) rest ∙ sym (append_assoc u.front (125 ∷ []) k.0));
-      size = omega (arith, length-append u.front (125 ∷ []), u.size);
-      holds = subst (λ ds. IsEscape (number_from 16 0 ds) (120 ∷ 123 ∷ u.front ++ 125 ∷ []) k.0) (sym digits)
-          (braced u.front u.holds.0 (omega (arith, is_some n some, u.size)) (subst (λ ds. IsScalar (number_from 16 0 ds)) digits (scalar_is v scalar)));
+      is = ap (λ t. 120 ∷ 123 ∷ t) (u.is ∙ ap (λ t. u.prefix ++ t) rest ∙ sym (append_assoc u.prefix (125 ∷ []) k.0));
+      size = omega (arith, length-append u.prefix (125 ∷ []), u.size);
+      holds = subst (λ ds. IsEscape (number_from 16 0 ds) (120 ∷ 123 ∷ u.prefix ++ 125 ∷ []) k.0) (sym digits)
+          (braced u.prefix u.holds.0 (omega (arith, is_some n some, u.size)) (subst (λ ds. IsScalar (number_from 16 0 ds)) digits (scalar_is v scalar)));
     }))
     (λ _. not_there _)) (λ _. not_there _))
 
@@ -115,25 +106,25 @@ brace_first c s is = subst (λ c. There (120 ∷ c ∷ s) (braced_escape s)) (is
 
 two_there : (s : List ℕ) → There (120 ∷ s) (cond (nat_le 2 (prefix_len is_hex s)) (escape (number_from 16 0 (take 2 s)) 3) None)
 two_there s =
-    split _ (nat_le 2 (prefix_len is_hex s)) _ _
+    split (There _) (nat_le 2 (prefix_len is_hex s)) _ _
     (λ is.
     let h = two_hex s (at_least 2 (prefix_len is_hex s) is) in
     subst (λ s. There (120 ∷ s) (escape (number_from 16 0 (take 2 s)) 3)) (sym h.3)
-    (there _ _ 3 (record { front = 120 ∷ h.0 ∷ h.1 ∷ []; rest = h.2; is = refl; size = refl; holds = hexadecimal h.4 h.5 })))
+    (there _ _ 3 (record { prefix = 120 ∷ h.0 ∷ h.1 ∷ []; rest = h.2; is = refl; size = refl; holds = hexadecimal h.4 h.5 })))
     (λ _. not_there _)
 
 hex_there : (s : List ℕ) → There (120 ∷ s) (hex_escape s)
 hex_there [] = two_there []
-hex_there (c ∷ s) = split _ (nat_eq c 123) _ _ (λ is. brace_first c s is) (λ _. two_there (c ∷ s))
+hex_there (c ∷ s) = split (There _) (nat_eq c 123) _ _ (λ is. brace_first c s is) (λ _. two_there (c ∷ s))
 
 longer_there : (c : ℕ) (s : List ℕ) → There (c ∷ s) (longer_escape c s)
 longer_there c s =
-    split _ (nat_eq c 94) _ _ (λ is. subst (λ c. There (c ∷ s) (control_escape s)) (is_equal c 94 is) (control_there s))
-    (λ _. split _ (nat_eq c 120) _ _ (λ is. subst (λ c. There (c ∷ s) (hex_escape s)) (is_equal c 120 is) (hex_there s)) (λ _. octal_there (c ∷ s)))
+    split (There _) (nat_eq c 94) _ _ (λ is. subst (λ c. There (c ∷ s) (control_escape s)) (is_equal c 94 is) (control_there s))
+    (λ _. split (There _) (nat_eq c 120) _ _ (λ is. subst (λ c. There (c ∷ s) (hex_escape s)) (is_equal c 120 is) (hex_there s)) (λ _. octal_there (c ∷ s)))
 
 by_there : (c : ℕ) (s : List ℕ) (v : Option ℕ) → simple_escape c ≡ v → There (c ∷ s) (escape_by v c s)
 by_there c s None is = longer_there c s
-by_there c s (Some v) is = there _ v 1 (record { front = c ∷ []; rest = s; is = refl; size = refl; holds = simple is })
+by_there c s (Some v) is = there _ v 1 (record { prefix = c ∷ []; rest = s; is = refl; size = refl; holds = simple is })
 
 pub escape_there : (s : List ℕ) → There s (escape_at s)
 unfolding escape_at

@@ -4,10 +4,10 @@ use Rattle.std.specs.List.{prefix_len}
 use Rattle.std.proofs.lemmas.Bool.Decides.{nat_tests}
 use Rattle.core_text.specs.Bytes.{is_digit, begins}
 use Rattle.core_text.specs.Fractions.{fraction_length}
-use Rattle.core_text.specs.Fronts.{AreAll, BeginsWithNone, AreDigits}
+use Rattle.core_text.specs.Prefixes.{AreAll, BeginsWithNone, AreDigits}
 use Rattle.core_text.specs.Characters.{IsQuoted, closing, code_point}
 use Rattle.core_text.specs.Numbers.{IsExponent, exponent, IsFraction, plain, with_exponent, IsInteger, integer, IsFloat, float}
-use Rattle.core_text.proofs.Fronts.{count_some, begins_less}
+use Rattle.core_text.proofs.Prefixes.{count_some, begins_less}
 use Rattle.core_text.proofs.Points.{point_cut}
 use Rattle.core_text.proofs.Fractions.{digits_there, fraction_there}
 
@@ -17,14 +17,14 @@ digits_cut ds xs us ws h e = (h.0, (h.1.0, begins_less is_digit us ws (ap (begin
 exponent_cut : (cs xs us ws : List ℕ) → IsExponent cs xs → xs ≡ us ++ ws → IsExponent cs us
 exponent_cut cs xs us ws (exponent ds ys mark sign digits) e = exponent ds us mark sign (digits_cut ds xs us ws digits e)
 
--- where an exponent or a fraction begins a front, one begins the whole
+-- where an exponent or a fraction begins a prefix, one begins the whole
 exponent_more : (cs us ws : List ℕ) → IsExponent cs us → BeginsWithNone IsExponent (cs ++ us ++ ws) → ⊥
 exponent_more cs us ws (exponent {e = e} {ss = ss} ds ys mark sign digits) h =
     let some : 0 < prefix_len is_digit (ds ++ (us ++ ws)) = omega (arith, count_some is_digit ds (us ++ ws) digits.1.0, digits.0) in
     let d = digits_there (ds ++ (us ++ ws)) some in
-    let cut : e ∷ ss ++ ds ++ us ++ ws ≡ e ∷ ss ++ d.front ++ d.rest =
-    ap (λ t. e ∷ t) (append_assoc (ss ++ ds) us ws ∙ append_assoc ss ds (us ++ ws) ∙ ap (λ t. ss ++ t) d.is ∙ sym (append_assoc ss d.front d.rest)) in
-    h (e ∷ ss ++ d.front) d.rest cut (exponent d.front d.rest mark sign d.holds)
+    let cut : e ∷ ss ++ ds ++ us ++ ws ≡ e ∷ ss ++ d.prefix ++ d.rest =
+    ap (λ t. e ∷ t) (append_assoc (ss ++ ds) us ws ∙ append_assoc ss ds (us ++ ws) ∙ ap (λ t. ss ++ t) d.is ∙ sym (append_assoc ss d.prefix d.rest)) in
+    h (e ∷ ss ++ d.prefix) d.rest cut (exponent d.prefix d.rest mark sign d.holds)
 
 no_exponent_cut : (us ws : List ℕ) → BeginsWithNone IsExponent (us ++ ws) → BeginsWithNone IsExponent us
 no_exponent_cut us ws h cs rest e is = exponent_more cs rest ws is (subst (λ us. BeginsWithNone IsExponent (us ++ ws)) e h)
@@ -41,7 +41,7 @@ fraction_positive : (ds us : List ℕ) → AreAll is_digit ds → 0 < length ds 
 fraction_positive ds us all some = positive (prefix_len is_digit (ds ++ us)) _ (omega (arith, count_some is_digit ds us all, some))
 
 fraction_begins : (ds us : List ℕ) → AreAll is_digit ds → 0 < length ds → BeginsWithNone IsFraction (46 ∷ ds ++ us) → ⊥
-fraction_begins ds us all some h = let b = fraction_there (46 ∷ ds ++ us) (fraction_positive ds us all some) in h b.front b.rest b.is b.holds
+fraction_begins ds us all some h = let b = fraction_there (46 ∷ ds ++ us) (fraction_positive ds us all some) in h b.prefix b.rest b.is b.holds
 
 fraction_more : (cs us ws : List ℕ) → IsFraction cs us → BeginsWithNone IsFraction (cs ++ us ++ ws) → ⊥
 fraction_more cs us ws (plain {ds = ds} digits ends) h = fraction_begins ds (us ++ ws) digits.1.0 digits.0 (subst (λ t. BeginsWithNone IsFraction (46 ∷ t)) (append_assoc ds us ws) h)

@@ -5,12 +5,10 @@ use Rattle.std.proofs.lemmas.Bool.Decides.{nat_tests}
 use Rattle.std.proofs.lemmas.List.{drop_at}
 use Rattle.core_text.specs.Bytes.{is_digit}
 use Rattle.core_text.specs.Fractions.{is_sign_byte, sign_length, exponent_length, fraction_length}
-use Rattle.core_text.specs.Fronts.{BeginsWith, BeginsWithNone, AreDigits}
+use Rattle.core_text.specs.Prefixes.{BeginsWith, BeginsWithNone, AreDigits}
 use Rattle.core_text.specs.Numbers.{IsSign, none, plus, minus, IsExponent, exponent, IsFraction, plain, with_exponent}
-use Rattle.core_text.proofs.Fronts.{passing, count}
-
-is_equal : (a b : ℕ) → nat_eq a b ≡ true → b ≡ a
-is_equal a b h = grind (arith, nat_tests)
+use Rattle.core_text.proofs.Prefixes.{passing, count}
+use Rattle.core_text.proofs.Standing.{is_equal}
 
 is_some : (n : ℕ) → nat_eq n 0 ≡ false → 0 < n
 is_some n h = grind (arith, nat_tests)
@@ -21,7 +19,7 @@ not_zero n h = grind (arith, nat_tests)
 behind_bytes : (k : ℕ) (c : ℕ) (t : List ℕ) → drop (k + 1) (c ∷ t) ≡ drop k t
 behind_bytes k c t = let e : k + 1 ≡ suc k = omega arith in ap (λ n. drop n (c ∷ t)) e
 
--- a sign or none at the front
+-- a sign or none at the beginning
 pub record Signed (s : List ℕ) : Type 0 where
   pub negative : Bool
   pub there : BeginsWith (λ ss us. IsSign ss negative) s (sign_length s)
@@ -30,15 +28,15 @@ plus_is : (c : ℕ) → nat_eq c 45 ≡ false → is_sign_byte c ≡ true → 43
 plus_is c other is = grind (arith, nat_tests)
 
 signed_by : (c : ℕ) (s : List ℕ) (b : Bool) → nat_eq c 45 ≡ b → is_sign_byte c ≡ true → (n : Bool) × BeginsWith (λ ss us. IsSign ss n) (c ∷ s) 1
-signed_by c s true dash is = (true, record { front = 45 ∷ []; rest = s; is = ap (λ c. c ∷ s) (sym (is_equal c 45 dash)); size = refl; holds = minus })
-signed_by c s false other is = (false, record { front = 43 ∷ []; rest = s; is = ap (λ c. c ∷ s) (sym (plus_is c other is)); size = refl; holds = plus })
+signed_by c s true dash is = (true, record { prefix = 45 ∷ []; rest = s; is = ap (λ c. c ∷ s) (sym (is_equal c 45 dash)); size = refl; holds = minus })
+signed_by c s false other is = (false, record { prefix = 43 ∷ []; rest = s; is = ap (λ c. c ∷ s) (sym (plus_is c other is)); size = refl; holds = plus })
 
 signed_cases : (c : ℕ) (s : List ℕ) (b : Bool) → is_sign_byte c ≡ b → (n : Bool) × BeginsWith (λ ss us. IsSign ss n) (c ∷ s) (cond b 1 0)
 signed_cases c s true is = signed_by c s (nat_eq c 45) refl is
-signed_cases c s false is = (false, record { front = []; rest = c ∷ s; is = refl; size = refl; holds = none })
+signed_cases c s false is = (false, record { prefix = []; rest = c ∷ s; is = refl; size = refl; holds = none })
 
 sign_there : (s : List ℕ) → Signed s
-sign_there [] = record { negative = false; there = record { front = []; rest = []; is = refl; size = refl; holds = none } }
+sign_there [] = record { negative = false; there = record { prefix = []; rest = []; is = refl; size = refl; holds = none } }
 sign_there (c ∷ s) = let g = signed_cases c s (is_sign_byte c) refl in record { negative = g.0; there = g.1 }
 
 digit_no_sign : (c : ℕ) → is_digit c ≡ true → is_sign_byte c ≡ false
@@ -53,9 +51,9 @@ sign_read ss ds us b none h = unsigned ds us h
 sign_read ss ds us b plus h = refl
 sign_read ss ds us b minus h = refl
 
--- digits at the front
+-- digits at the beginning
 pub digits_there : (s : List ℕ) → 0 < prefix_len is_digit s → BeginsWith AreDigits s (prefix_len is_digit s)
-digits_there s some = let f = passing is_digit s in record { front = f.front; rest = f.rest; is = f.is; size = f.size; holds = (omega (arith, some, f.size), f.holds) }
+digits_there s some = let f = passing is_digit s in record { prefix = f.prefix; rest = f.rest; is = f.is; size = f.size; holds = (omega (arith, some, f.size), f.holds) }
 
 digits_read : (ds us : List ℕ) → AreDigits ds us → prefix_len is_digit (ds ++ us) ≡ length ds
 digits_read ds us h = count is_digit ds us h.1.0 h.1.1
@@ -73,14 +71,14 @@ scaled_there : (c : ℕ) (t : List ℕ) (k n : ℕ) (x : Bool) → nat_eq n 0 �
 scaled_there c t k n true nothing mark g signs digits some = absurd (omega (arith, some))
 scaled_there c t k n false is mark g signs digits some =
     let s = g.there in
-    let rest : drop (k + 1) (c ∷ t) ≡ s.rest = behind_bytes k c t ∙ ap (drop k) s.is ∙ drop_at s.front s.rest k (omega (arith, s.size, signs)) in
+    let rest : drop (k + 1) (c ∷ t) ≡ s.rest = behind_bytes k c t ∙ ap (drop k) s.is ∙ drop_at s.prefix s.rest k (omega (arith, s.size, signs)) in
     let d = digits_there (drop (k + 1) (c ∷ t)) (omega (arith, digits, is_some n is)) in
     record {
-      front = c ∷ s.front ++ d.front;
+      prefix = c ∷ s.prefix ++ d.prefix;
       rest = d.rest;
-      is = ap (λ u. c ∷ u) (s.is ∙ ap (λ u. s.front ++ u) (sym rest ∙ d.is) ∙ sym (append_assoc s.front d.front d.rest));
-      size = omega (arith, length-append s.front d.front, s.size, d.size, signs, digits);
-      holds = exponent d.front d.rest mark s.holds d.holds;
+      is = ap (λ u. c ∷ u) (s.is ∙ ap (λ u. s.prefix ++ u) (sym rest ∙ d.is) ∙ sym (append_assoc s.prefix d.prefix d.rest));
+      size = omega (arith, length-append s.prefix d.prefix, s.size, d.size, signs, digits);
+      holds = exponent d.prefix d.rest mark s.holds d.holds;
     }
 
 exponent_by : (c : ℕ) (t : List ℕ) (b : Bool) → is_mark c ≡ b
@@ -115,7 +113,7 @@ no_exponent s is cs us e h = omega (arith, is, ap exponent_length e, exponent_re
 
 none_by : (s : List ℕ) (n : ℕ) → exponent_length s ≡ n → BeginsWithNone IsExponent s → n ≡ 0
 none_by s zero is h = refl
-none_by s (suc n) is h = let b = exponent_there s (omega (arith, is)) in absurd (h b.front b.rest b.is b.holds)
+none_by s (suc n) is h = let b = exponent_there s (omega (arith, is)) in absurd (h b.prefix b.rest b.is b.holds)
 
 exponent_none : (s : List ℕ) → BeginsWithNone IsExponent s → exponent_length s ≡ 0
 exponent_none s h = none_by s (exponent_length s) refl h
@@ -126,15 +124,15 @@ with_digits n s = cond (nat_eq n 0) 0 (n + 1 + exponent_length (drop (n + 1) s))
 
 digits_then : (t : List ℕ) (n x : ℕ) (d : BeginsWith AreDigits t n) → exponent_length d.rest ≡ x → BeginsWith IsFraction (46 ∷ t) (n + 1 + x)
 digits_then t n zero d is =
-    record { front = 46 ∷ d.front; rest = d.rest; is = ap (λ u. 46 ∷ u) d.is; size = omega (arith, d.size); holds = plain d.holds (no_exponent d.rest is) }
+    record { prefix = 46 ∷ d.prefix; rest = d.rest; is = ap (λ u. 46 ∷ u) d.is; size = omega (arith, d.size); holds = plain d.holds (no_exponent d.rest is) }
 digits_then t n (suc x) d is =
     let e = exponent_there d.rest (omega (arith, is)) in
     record {
-      front = 46 ∷ d.front ++ e.front;
+      prefix = 46 ∷ d.prefix ++ e.prefix;
       rest = e.rest;
-      is = ap (λ u. 46 ∷ u) (d.is ∙ ap (λ u. d.front ++ u) e.is ∙ sym (append_assoc d.front e.front e.rest));
-      size = omega (arith, length-append d.front e.front, d.size, e.size, is);
-      holds = with_exponent d.front e.front e.rest (subst (AreDigits d.front) e.is d.holds) e.holds;
+      is = ap (λ u. 46 ∷ u) (d.is ∙ ap (λ u. d.prefix ++ u) e.is ∙ sym (append_assoc d.prefix e.prefix e.rest));
+      size = omega (arith, length-append d.prefix e.prefix, d.size, e.size, is);
+      holds = with_exponent d.prefix e.prefix e.rest (subst (AreDigits d.prefix) e.is d.holds) e.holds;
     }
 
 fraction_digits : (t : List ℕ) (n : ℕ) (b : Bool) → nat_eq n 0 ≡ b → n ≡ prefix_len is_digit t → 0 < cond b 0 (n + 1 + exponent_length (drop (n + 1) (46 ∷ t)))
@@ -142,7 +140,7 @@ fraction_digits : (t : List ℕ) (n : ℕ) (b : Bool) → nat_eq n 0 ≡ b → n
 fraction_digits t n true is digits some = absurd (omega (arith, some))
 fraction_digits t n false is digits some =
     let d = subst (BeginsWith AreDigits t) (sym digits) (digits_there t (omega (arith, digits, is_some n is))) in
-    let rest : d.rest ≡ drop (n + 1) (46 ∷ t) = sym (behind_bytes n 46 t ∙ ap (drop n) d.is ∙ drop_at d.front d.rest n d.size) in
+    let rest : d.rest ≡ drop (n + 1) (46 ∷ t) = sym (behind_bytes n 46 t ∙ ap (drop n) d.is ∙ drop_at d.prefix d.rest n d.size) in
     digits_then t n _ d (ap exponent_length rest)
 
 fraction_by : (c : ℕ) (t : List ℕ) (b : Bool) → nat_eq c 46 ≡ b → 0 < cond b (with_digits (prefix_len is_digit t) (c ∷ t)) 0
@@ -177,7 +175,7 @@ no_fraction s is cs us e h = omega (arith, is, ap fraction_length e, fraction_re
 
 no_fraction_by : (s : List ℕ) (n : ℕ) → fraction_length s ≡ n → BeginsWithNone IsFraction s → n ≡ 0
 no_fraction_by s zero is h = refl
-no_fraction_by s (suc n) is h = let b = fraction_there s (omega (arith, is)) in absurd (h b.front b.rest b.is b.holds)
+no_fraction_by s (suc n) is h = let b = fraction_there s (omega (arith, is)) in absurd (h b.prefix b.rest b.is b.holds)
 
 pub fraction_none : (s : List ℕ) → BeginsWithNone IsFraction s → fraction_length s ≡ 0
 fraction_none s h = no_fraction_by s (fraction_length s) refl h

@@ -12,9 +12,9 @@ use Rattle.core_text.specs.Walks.{walk, go_on}
 use Rattle.core_text.specs.Utf8.{character_length, character_step_by, character_step, no_place, ill_formed_from, ill_formed}
 use Rattle.core_text.specs.declared.code_point.CodePoint.{CodePoint}
 use Rattle.core_text.specs.CodePoints.{point, decoded}
-use Rattle.core_text.specs.Fronts.{AreAll, BeginsWith, BeginsWithNone}
+use Rattle.core_text.specs.Prefixes.{AreAll, BeginsWith, BeginsWithNone}
 use Rattle.core_text.specs.Characters.{IsCharacter, IsIllFormed}
-use Rattle.core_text.proofs.Walks.{walk_front}
+use Rattle.core_text.proofs.Walks.{walk_prefix}
 use Rattle.core_text.proofs.Encodings.{decoded_there, decodes, continues_all}
 
 -- a character is taken whole
@@ -69,16 +69,16 @@ more_utf8 : (v : ℕ) (cs us : List ℕ) → IsCharacter v cs → IsUtf8 us → 
 more_utf8 v cs us is u =
     (v ∷ u.0, (ap (λ b. b && all_scalars u.0) is.0 ∙ u.1.0, ap (λ t. t ++ encode_utf8_all u.0) is.1 ∙ ap (λ t. cs ++ t) u.1.1))
 
-more : (s : List ℕ) (p : Place) (v n : ℕ) (r : Option Place) → (b : BeginsWith (λ cs us. IsCharacter v cs) s n) → Gives b.rest (place_after p b.front) r → Gives s p r
-more s p v n None b g = subst IsUtf8 (sym b.is) (more_utf8 v b.front b.rest b.holds g)
+more : (s : List ℕ) (p : Place) (v n : ℕ) (r : Option Place) → (b : BeginsWith (λ cs us. IsCharacter v cs) s n) → Gives b.rest (place_after p b.prefix) r → Gives s p r
+more s p v n None b g = subst IsUtf8 (sym b.is) (more_utf8 v b.prefix b.rest b.holds g)
 more s p v n (Some at) b g = record {
-  good = b.front ++ g.good;
+  good = b.prefix ++ g.good;
   bad = g.bad;
-  is = b.is ∙ ap (λ t. b.front ++ t) g.is ∙ sym (append_assoc b.front g.good g.bad);
-  utf8 = more_utf8 v b.front g.good b.holds g.utf8;
+  is = b.is ∙ ap (λ t. b.prefix ++ t) g.is ∙ sym (append_assoc b.prefix g.good g.bad);
+  utf8 = more_utf8 v b.prefix g.good b.holds g.utf8;
   some = g.some;
   no_character = g.no_character;
-  place = g.place ∙ sym (places b.front g.good p);
+  place = g.place ∙ sym (places b.prefix g.good p);
 }
 
 behind : (c : ℕ) (t : List ℕ) (n : ℕ) → 0 < n → drop (n - 1) t ≡ drop n (c ∷ t)
@@ -104,8 +104,8 @@ step_gives c t p None is next = record {
 }
 step_gives c t p (Some n) is next =
     let b = decoded_there c t n is in
-    let rest : drop (n - 1) t ≡ b.rest = behind c t n (omega (arith, b.size, character_some _ b.front b.holds)) ∙ ap (drop n) b.is ∙ drop_at b.front b.rest n b.size in
-    let place : moved p c ≡ place_after p b.front = ap (λ s. moved p (slice_index s 0)) b.is ∙ moved_over _ b.front b.rest p b.holds in
+    let rest : drop (n - 1) t ≡ b.rest = behind c t n (omega (arith, b.size, character_some _ b.prefix b.holds)) ∙ ap (drop n) b.is ∙ drop_at b.prefix b.rest n b.size in
+    let place : moved p c ≡ place_after p b.prefix = ap (λ s. moved p (slice_index s 0)) b.is ∙ moved_over _ b.prefix b.rest p b.holds in
     let r = walk character_step no_place t (n - 1) (moved p c) in
     more (c ∷ t) p _ n r b (subst (λ q. Gives b.rest q r) place (subst (λ s. Gives s (moved p c) r) rest (next n)))
 
@@ -134,7 +134,7 @@ ill_formed_at s at is =
 -- and the other way round: characters are gone over
 over : (v : ℕ) (cs us : List ℕ) (p : Place) → IsCharacter v cs → walk character_step no_place (cs ++ us) 0 p ≡ walk character_step no_place us 0 (place_after p cs)
 over v cs us p is =
-    walk_front character_step no_place cs us (length cs) p _ refl (character_some v cs is) (ap (λ n. character_step_by n (slice_index (cs ++ us) 0) p) (taken v cs us is))
+    walk_prefix character_step no_place cs us (length cs) p _ refl (character_some v cs is) (ap (λ n. character_step_by n (slice_index (cs ++ us) 0) p) (taken v cs us is))
     ∙ ap (λ q. walk character_step no_place us 0 q) (moved_over v cs us p is)
 
 both : (a b : Bool) → (a && b) ≡ true → (a ≡ true) × (b ≡ true)
@@ -150,7 +150,7 @@ overs (v ∷ vs) us p good =
     ap (λ t. walk character_step no_place t 0 p) (append_assoc cs ds us) ∙ over v cs (ds ++ us) p (h.0, refl) ∙ overs vs us (place_after p cs) h.1
     ∙ ap (λ q. walk character_step no_place us 0 q) (sym (places cs ds p))
 
--- UTF-8 at the front is gone over
+-- UTF-8 at the beginning is gone over
 pub utf8_passed : (cs us : List ℕ) (p : Place) → IsUtf8 cs → ill_formed_from p (cs ++ us) ≡ ill_formed_from (place_after p cs) us
 unfolding ill_formed_from
 utf8_passed cs us p u = subst (λ s. walk character_step no_place (s ++ us) 0 p ≡ walk character_step no_place us 0 (place_after p s)) u.1.1 (overs u.0 us p u.1.0)
@@ -170,7 +170,7 @@ utf8_read s u = sym (from_start s) ∙ ap (ill_formed_from start) (sym (append-n
 not_taken : (s : List ℕ) (n : Option ℕ) → character_length s ≡ n → 0 < length s → ((v : ℕ) → BeginsWithNone (λ cs us. IsCharacter v cs) s) → n ≡ None
 not_taken [] n is some h = absurd (omega (arith, some))
 not_taken s None is some h = refl
-not_taken (c ∷ t) (Some n) is some h = let b = decoded_there c t n is in absurd (h _ b.front b.rest b.is b.holds)
+not_taken (c ∷ t) (Some n) is some h = let b = decoded_there c t n is in absurd (h _ b.prefix b.rest b.is b.holds)
 
 stuck_by : (s : List ℕ) (p : Place) → 0 < length s → character_length s ≡ None → ill_formed_from p s ≡ Some p
 unfolding ill_formed_from

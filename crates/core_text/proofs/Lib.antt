@@ -1,6 +1,7 @@
 pub mod Walks
 pub mod Numbers
-pub mod Fronts
+pub mod Prefixes
+pub mod Standing
 pub mod Encodings
 pub mod Escaping
 pub mod Points

@@ -1,4 +1,4 @@
--- Bytes at the front of a text that were passed: they are UTF-8, and the place behind them is known.
+-- Bytes at the beginning of a text that were passed: they are UTF-8, and the place behind them is known.
 use Rattle.std.proofs.Common.{◌≡◌, ℕ, ◌+◌, ◌<◌, Bool, true, false, cond, nat_eq, List, [], ◌∷◌, ◌++◌, length, take, drop, Some, None, refl, ap, sym, ◌∙◌, subst, length-append, length-drop, arith}
 use Rattle.std.specs.Prelude.{slice_index}
 use Rattle.std.specs.List.{prefix_len}
@@ -11,10 +11,10 @@ use Rattle.hipe_terms.specs.declared.place.Place.{Place}
 use Rattle.core_text.specs.Bytes.{is_continuation, is_before_line_end, begins}
 use Rattle.core_text.specs.Places.{moved, place_after}
 use Rattle.core_text.specs.Utf8.{character_length, ill_formed_from, ArePassed}
-use Rattle.core_text.specs.Fronts.{AreAll, BeginsWith}
+use Rattle.core_text.specs.Prefixes.{AreAll, BeginsWith}
 use Rattle.core_text.specs.Characters.{IsCharacter}
 use Rattle.core_text.proofs.Encodings.{decoded_there, continues_all}
-use Rattle.core_text.proofs.Fronts.{stops}
+use Rattle.core_text.proofs.Prefixes.{stops}
 use Rattle.core_text.proofs.IllFormed.{moved_over, places, utf8_passed, stuck_at}
 use Rattle.core_text.proofs.Plain.{all_as, character_utf8}
 
@@ -38,20 +38,20 @@ Character v cs us = IsCharacter v cs
 character_there : (s : List ℕ) (n : ℕ) → character_length s ≡ Some n → (v : ℕ) × BeginsWith (Character v) s n
 unfolding character_length
 character_there [] n is = absurd (cc)
-character_there (c ∷ t) n is = let b = decoded_there c t n is in (_, record { front = b.front; rest = b.rest; is = b.is; size = b.size; holds = b.holds })
+character_there (c ∷ t) n is = let b = decoded_there c t n is in (_, record { prefix = b.prefix; rest = b.rest; is = b.is; size = b.size; holds = b.holds })
 
 pub character_passed : (s : List ℕ) (p : Place) (i : ℕ) (q : Place) (n : ℕ) → ArePassed s p i q → character_length (drop i s) ≡ Some n → ArePassed s p (i + n) (moved q (slice_index (drop i s) 0))
 character_passed s p i q n h is =
     let f = character_there (drop i s) n is in
     let b = f.1 in
-    let more : take n (drop i s) ≡ b.front = ap (take n) b.is ∙ take_at b.front b.rest n b.size in
-    let front : take (i + n) s ≡ take i s ++ b.front = take-add i n s ∙ ap (λ t. take i s ++ t) more in
-    let size : length (drop i s) ≡ n + length b.rest = ap length b.is ∙ length-append b.front b.rest ∙ ap (λ k. k + length b.rest) b.size in
+    let more : take n (drop i s) ≡ b.prefix = ap (take n) b.is ∙ take_at b.prefix b.rest n b.size in
+    let prefix : take (i + n) s ≡ take i s ++ b.prefix = take-add i n s ∙ ap (λ t. take i s ++ t) more in
+    let size : length (drop i s) ≡ n + length b.rest = ap length b.is ∙ length-append b.prefix b.rest ∙ ap (λ k. k + length b.rest) b.size in
     record {
       within = omega (arith, size, length-drop i s, h.within);
-      utf8 = subst IsUtf8 (sym front) (IsUtf8-append (take i s) b.front h.utf8 (character_utf8 f.0 b.front b.holds));
-      place = ap (λ s. moved q (slice_index s 0)) b.is ∙ moved_over f.0 b.front b.rest q b.holds ∙ ap (λ q. place_after q b.front) h.place
-          ∙ sym (places (take i s) b.front p) ∙ ap (place_after p) (sym front);
+      utf8 = subst IsUtf8 (sym prefix) (IsUtf8-append (take i s) b.prefix h.utf8 (character_utf8 f.0 b.prefix b.holds));
+      place = ap (λ s. moved q (slice_index s 0)) b.is ∙ moved_over f.0 b.prefix b.rest q b.holds ∙ ap (λ q. place_after q b.prefix) h.place
+          ∙ sym (places (take i s) b.prefix p) ∙ ap (place_after p) (sym prefix);
     }
 
 -- the bytes of a line
@@ -73,9 +73,9 @@ pub line_goes_on : (s : List ℕ) (n : ℕ) → character_length s ≡ Some n �
 line_goes_on s n is other =
     let f = character_there s n is in
     let b = f.1 in
-    let all = first_in_line f.0 b.front b.rest b.holds (ap (λ s. nat_eq (slice_index s 0) 10) (sym b.is) ∙ other) in
-    let rest : b.rest ≡ drop n s = sym (ap (drop n) b.is ∙ drop_at b.front b.rest n b.size) in
-    ap (prefix_len is_before_line_end) b.is ∙ prefix_both is_before_line_end b.front b.rest all ∙ ap (λ k. k + prefix_len is_before_line_end b.rest) b.size
+    let all = first_in_line f.0 b.prefix b.rest b.holds (ap (λ s. nat_eq (slice_index s 0) 10) (sym b.is) ∙ other) in
+    let rest : b.rest ≡ drop n s = sym (ap (drop n) b.is ∙ drop_at b.prefix b.rest n b.size) in
+    ap (prefix_len is_before_line_end) b.is ∙ prefix_both is_before_line_end b.prefix b.rest all ∙ ap (λ k. k + prefix_len is_before_line_end b.rest) b.size
     ∙ ap (λ us. n + prefix_len is_before_line_end us) rest
 
 line_ends : (s : List ℕ) → (0 < length s → slice_index s 0 ≡ 10) → begins is_before_line_end s ≡ false

@@ -7,7 +7,7 @@ use Rattle.hipe_terms.specs.declared.place.Place.{Place}
 use Rattle.core_text.specs.Bytes.{is_from, is_digit, is_octal, is_hex}
 use Rattle.core_text.specs.Places.{moved, place_after}
 use Rattle.core_text.specs.Escapes.{simple_escape}
-use Rattle.core_text.specs.Fronts.{AreAll}
+use Rattle.core_text.specs.Prefixes.{AreAll}
 use Rattle.core_text.specs.Characters.{IsCharacter, IsEscape, simple, octal, control, hexadecimal, braced, IsCodePoint, itself, escaped, IsQuoted, closing, code_point}
 use Rattle.core_text.specs.Numbers.{IsSign, none, plus, minus, IsExponent, exponent, IsFraction, plain, with_exponent, IsInteger, integer, IsFloat, float}
 use Rattle.core_text.proofs.Encodings.{one_is}

@@ -1,43 +1,33 @@
 -- Code points are read as they are spelled.
-use Rattle.std.proofs.Common.{◌≡◌, ℕ, ◌+◌, ◌<◌, Bool, true, false, cond, nat_eq, List, [], ◌∷◌, ◌++◌, length, Option, Some, None, refl, ap, ◌∙◌, subst, arith}
-use Rattle.std.proofs.lemmas.Bool.Decides.{nat_tests}
+use Rattle.std.proofs.Common.{◌≡◌, ℕ, ◌+◌, ◌<◌, Bool, false, cond, nat_eq, List, [], ◌∷◌, ◌++◌, length, Option, Some, None, refl, ap, ◌∙◌, subst, arith}
 use Rattle.core_text.specs.declared.escape.Escape.{Escape}
 use Rattle.core_text.specs.declared.code_point.CodePoint.{CodePoint}
 use Rattle.core_text.specs.Bytes.{begins}
 use Rattle.core_text.specs.Escapes.{escape_at}
 use Rattle.core_text.specs.Utf8.{character_length}
 use Rattle.core_text.specs.CodePoints.{point, decoded, escaped as escaped_point, code_point_at}
-use Rattle.core_text.specs.Fronts.{BeginsWith}
+use Rattle.core_text.specs.Prefixes.{BeginsWith}
 use Rattle.core_text.specs.Characters.{IsCharacter, IsEscape, IsCodePoint, itself, escaped}
+use Rattle.core_text.proofs.Standing.{is_equal, split, Stands, stands}
 use Rattle.core_text.proofs.Encodings.{decoded_there, Decodes, decodes}
 use Rattle.core_text.proofs.Escaping.{escape_there, escape_read, escape_cut}
 
 abbrev pub There : List ℕ → Option CodePoint → Type 0
-There s r = (p : CodePoint) → r ≡ Some p → BeginsWith (IsCodePoint p.value) s p.length
-
-same_point : (p q : CodePoint) (r : Option CodePoint) → r ≡ Some p → r ≡ Some q → p ≡ q
-same_point p q r f g = cc
+There s r = Stands {X = CodePoint} (λ p. p.value) (λ p. p.length) IsCodePoint s r
 
 there : (s : List ℕ) (v n : ℕ) → BeginsWith (IsCodePoint v) s n → There s (point v n)
-there s v n b p is = subst (λ p. BeginsWith (IsCodePoint p.value) s p.length) (same_point (record { value = v; length = n }) p (point v n) refl is) b
+there s v n b = stands {X = CodePoint} (λ p. p.value) (λ p. p.length) IsCodePoint s (record { value = v; length = n }) b
 
 not_there : (s : List ℕ) → There s None
 not_there s p is = absurd (cc)
-
-split : (s : List ℕ) (b : Bool) (x y : Option CodePoint) → (b ≡ true → There s x) → (b ≡ false → There s y) → There s (cond b x y)
-split s true x y f g = f refl
-split s false x y f g = g refl
-
-is_equal : (a b : ℕ) → nat_eq a b ≡ true → b ≡ a
-is_equal a b h = grind (arith, nat_tests)
 
 escaped_there : (s : List ℕ) (e : Option Escape) → escape_at s ≡ e → There (92 ∷ s) (escaped_point e)
 escaped_there s None is = not_there _
 escaped_there s (Some e) is =
     let b = escape_there s e is in
-    there _ e.value (e.length + 1) (record { front = 92 ∷ b.front; rest = b.rest; is = ap (λ t. 92 ∷ t) b.is; size = omega (arith, b.size); holds = escaped b.holds })
+    there _ e.value (e.length + 1) (record { prefix = 92 ∷ b.prefix; rest = b.rest; is = ap (λ t. 92 ∷ t) b.is; size = omega (arith, b.size); holds = escaped b.holds })
 
--- the first byte of a front is that of the text
+-- the first byte of a prefix is that of the text
 pub first_of : (test : ℕ → Bool) (cs us : List ℕ) (c : ℕ) (t : List ℕ) → c ∷ t ≡ cs ++ us → test c ≡ false → begins test cs ≡ false
 first_of test [] us c t is out = refl
 first_of test (d ∷ cs) us c t is out = let e : c ≡ d = cc in subst (λ d. test d ≡ false) e out
@@ -46,13 +36,13 @@ decoded_by : (c : ℕ) (t : List ℕ) (n : Option ℕ) → nat_eq c 92 ≡ false
 decoded_by c t None other is = not_there _
 decoded_by c t (Some n) other is =
     let b = decoded_there c t n is in
-    there _ _ n (record { front = b.front; rest = b.rest; is = b.is; size = b.size; holds = itself b.holds (first_of (λ c. nat_eq c 92) b.front b.rest c t b.is other) })
+    there _ _ n (record { prefix = b.prefix; rest = b.rest; is = b.is; size = b.size; holds = itself b.holds (first_of (λ c. nat_eq c 92) b.prefix b.rest c t b.is other) })
 
 pub point_there : (s : List ℕ) → There s (code_point_at s)
 unfolding code_point_at
 point_there [] = not_there []
 point_there (c ∷ s) =
-    split _ (nat_eq c 92) _ _ (λ is. subst (λ c. There (c ∷ s) (escaped_point (escape_at s))) (is_equal c 92 is) (escaped_there s (escape_at s) refl))
+    split (There _) (nat_eq c 92) _ _ (λ is. subst (λ c. There (c ∷ s) (escaped_point (escape_at s))) (is_equal c 92 is) (escaped_there s (escape_at s) refl))
     (λ other. decoded_by c s (character_length (c ∷ s)) other refl)
 
 -- and a code point that is there is read

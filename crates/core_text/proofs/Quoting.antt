@@ -9,10 +9,10 @@ use Rattle.core_text.specs.Bytes.{begins}
 use Rattle.core_text.specs.Walks.{walk, go_on}
 use Rattle.core_text.specs.CodePoints.{code_point_at, value_step_by, value_step, value_end, values_between}
 use Rattle.core_text.specs.Quotes.{no_quote, longer, quoted_step_by, quoted_step, nothing, quoted_at}
-use Rattle.core_text.specs.Fronts.{BeginsWith}
+use Rattle.core_text.specs.Prefixes.{BeginsWith}
 use Rattle.core_text.specs.Characters.{IsCodePoint, IsQuoted, closing, code_point}
 use Rattle.core_text.specs.Laws.{HasQuoted}
-use Rattle.core_text.proofs.Walks.{walk_front, walk_halt}
+use Rattle.core_text.proofs.Walks.{walk_prefix, walk_halt}
 use Rattle.core_text.proofs.Points.{point_there, point_read, point_cut, point_some, first_of}
 
 -- what stands up to the closing quote, behind what is known
@@ -36,10 +36,10 @@ at_quote quote c t b is = record {
   size = 1;
   bytes = refl;
   count = refl;
-  there = record { front = quote ∷ []; rest = t; is = ap (λ d. d ∷ t) (is_equal c quote is); size = refl; holds = closing };
+  there = record { prefix = quote ∷ []; rest = t; is = ap (λ d. d ∷ t) (is_equal c quote is); size = refl; holds = closing };
 }
 
-more : (quote : ℕ) (s : List ℕ) (b : Quoted) (p : CodePoint) (r : Option Quoted) → (v : BeginsWith (IsCodePoint p.value) s p.length) → begins (λ c. nat_eq c quote) v.front ≡ false
+more : (quote : ℕ) (s : List ℕ) (b : Quoted) (p : CodePoint) (r : Option Quoted) → (v : BeginsWith (IsCodePoint p.value) s p.length) → begins (λ c. nat_eq c quote) v.prefix ≡ false
     → Gives quote v.rest (longer b p.length 1) r → Gives quote s b r
 more quote s b p None v other g = tt
 more quote s b p (Some r) v other g =
@@ -50,16 +50,16 @@ more quote s b p (Some r) v other g =
       bytes = omega (arith, g.bytes);
       count = omega (arith, g.count);
       there = record {
-        front = v.front ++ q.front;
+        prefix = v.prefix ++ q.prefix;
         rest = q.rest;
-        is = v.is ∙ ap (λ t. v.front ++ t) q.is ∙ sym (append_assoc v.front q.front q.rest);
-        size = omega (arith, length-append v.front q.front, v.size, q.size);
-        holds = code_point (subst (IsCodePoint p.value v.front) q.is v.holds) other q.holds;
+        is = v.is ∙ ap (λ t. v.prefix ++ t) q.is ∙ sym (append_assoc v.prefix q.prefix q.rest);
+        size = omega (arith, length-append v.prefix q.prefix, v.size, q.size);
+        holds = code_point (subst (IsCodePoint p.value v.prefix) q.is v.holds) other q.holds;
       };
     }
 
 positive : (s : List ℕ) (p : CodePoint) → BeginsWith (IsCodePoint p.value) s p.length → 0 < p.length
-positive s p v = omega (arith, v.size, point_some p.value v.front v.rest v.holds)
+positive s p v = omega (arith, v.size, point_some p.value v.prefix v.rest v.holds)
 
 behind : (c : ℕ) (t : List ℕ) (n : ℕ) → 0 < n → drop (n - 1) t ≡ drop n (c ∷ t)
 behind c t zero some = absurd (omega (arith, some))
@@ -71,9 +71,9 @@ step_by : (quote c : ℕ) (t : List ℕ) (b : Quoted) (p : Option CodePoint) →
 step_by quote c t b None other is next = tt
 step_by quote c t b (Some p) other is next =
     let v = point_there (c ∷ t) p is in
-    let rest : drop (p.length - 1) t ≡ v.rest = behind c t p.length (positive _ p v) ∙ ap (drop p.length) v.is ∙ drop_at v.front v.rest p.length v.size in
+    let rest : drop (p.length - 1) t ≡ v.rest = behind c t p.length (positive _ p v) ∙ ap (drop p.length) v.is ∙ drop_at v.prefix v.rest p.length v.size in
     let u = longer b p.length 1 in
-    more quote (c ∷ t) b p _ v (first_of (λ c. nat_eq c quote) v.front v.rest c t v.is other)
+    more quote (c ∷ t) b p _ v (first_of (λ c. nat_eq c quote) v.prefix v.rest c t v.is other)
     (subst (λ s. Gives quote s u (walk (quoted_step quote) no_quote t (p.length - 1) u)) rest (next p.length u))
 
 step_cases : (quote c : ℕ) (t : List ℕ) (b : Quoted) (x : Bool) → nat_eq c quote ≡ x
@@ -124,7 +124,7 @@ reads quote vs cs us closing b =
 reads quote vs cs us (code_point {v = v} {vs = ws} {cs = ds} {ds = es} is other rest) b =
     let u = longer b (length ds) 1 in
     ap (λ t. walk (quoted_step quote) no_quote t 0 b) (append_assoc ds es us)
-    ∙ walk_front (quoted_step quote) no_quote ds (es ++ us) (length ds) b u refl (point_some v ds (es ++ us) is) (step_read quote v ds (es ++ us) b is other)
+    ∙ walk_prefix (quoted_step quote) no_quote ds (es ++ us) (length ds) b u refl (point_some v ds (es ++ us) is) (step_read quote v ds (es ++ us) b is other)
     ∙ reads quote ws es us rest u ∙ pair_same _ _ _ _ (omega (arith, length-append ds es)) (omega arith)
 
 pub quoted_read : (quote : ℕ) (vs cs us : List ℕ) → IsQuoted quote vs cs us → quoted_at quote (cs ++ us) ≡ Some (record { length = length cs; code_points = length vs })
@@ -146,7 +146,7 @@ values_in quote vs cs us (code_point {v = v} {vs = xs} {cs = ds} {ds = es} is ot
       body = ds ++ w.body;
       is = ap (λ t. ds ++ t) w.is ∙ sym (append_assoc ds w.body (quote ∷ []));
       values = λ ws.
-          walk_front value_step value_end ds w.body (length ds) ws (ws ++ v ∷ []) refl (point_some v ds w.body cut) (ap (λ p. value_step_by p ws) (point_read v ds w.body cut))
+          walk_prefix value_step value_end ds w.body (length ds) ws (ws ++ v ∷ []) refl (point_some v ds w.body cut) (ap (λ p. value_step_by p ws) (point_read v ds w.body cut))
           ∙ w.values (ws ++ v ∷ []) ∙ append_assoc ws (v ∷ []) xs;
     }
 

@@ -6,10 +6,10 @@ use Rattle.std.proofs.lemmas.Bool.Decides.{nat_tests}
 use Rattle.std.proofs.lemmas.List.{take_at}
 use Rattle.core_text.specs.Bytes.{is_from, is_octal, is_hex, digit_value, number_from}
 use Rattle.core_text.specs.Escapes.{simple_escape}
-use Rattle.core_text.specs.Fronts.{AreAll}
+use Rattle.core_text.specs.Prefixes.{AreAll}
 use Rattle.core_text.specs.Characters.{IsEscape, simple, octal, control, hexadecimal, braced, IsCodePoint, itself, escaped, IsQuoted, closing, code_point}
 use Rattle.core_text.proofs.Numbers.{octal_small}
-use Rattle.core_text.proofs.Fronts.{count_some}
+use Rattle.core_text.proofs.Prefixes.{count_some}
 
 scalar_low : (v : ℕ) → v < 55296 → IsScalar v
 scalar_low v h = grind (arith, nat_tests)

@@ -1,4 +1,4 @@
--- Going through a text from its front.
+-- Going through a text from its beginning.
 use Rattle.std.proofs.Common.{◌≡◌, ℕ, zero, suc, ◌+◌, ◌-◌, ◌≤◌, ◌<◌, List, [], ◌∷◌, ◌++◌, length, drop, Result, Ok, Err, refl, ap, sym, ◌∙◌, arith}
 use Rattle.std.specs.Prelude.{slice_index}
 use Rattle.std.proofs.Math.ListN.{drop_of_length-le}
@@ -37,14 +37,14 @@ module _ {S R : Type 0} (step : List ℕ → S → Result (ℕ × S) R) (end : S
   walk_stop text i s r lt is = walk_at text i s lt ∙ ap (λ r. go_on r (λ p. walk step end (drop (suc i) text) (p.0 - 1) p.1)) is
 
 module _ {S R : Type 0} (step : List ℕ → S → Result (ℕ × S) R) (end : S → R) where
-  -- a step over bytes at the front
-  pub walk_front : (cs us : List ℕ) (n : ℕ) (s u : S) → length cs ≡ n → 0 < n → step (cs ++ us) s ≡ Ok (n, u) → walk step end (cs ++ us) 0 s ≡ walk step end us 0 u
-  walk_front [] us n s u size some is = absurd (omega (arith, size, some))
-  walk_front (c ∷ cs) us n s u size some is =
+  -- a step over bytes at the beginning
+  pub walk_prefix : (cs us : List ℕ) (n : ℕ) (s u : S) → length cs ≡ n → 0 < n → step (cs ++ us) s ≡ Ok (n, u) → walk step end (cs ++ us) 0 s ≡ walk step end us 0 u
+  walk_prefix [] us n s u size some is = absurd (omega (arith, size, some))
+  walk_prefix (c ∷ cs) us n s u size some is =
       ap (λ r. go_on r (λ p. walk step end (cs ++ us) (p.0 - 1) p.1)) is ∙ skipped step end (cs ++ us) (n - 1) u
       ∙ ap (λ t. walk step end t 0 u) (drop_at cs us (n - 1) (omega (arith, size)))
 
-  -- a step that ends the way at the front
+  -- a step that ends the way at the beginning
   pub walk_halt : (cs us : List ℕ) (s : S) (r : R) → 0 < length cs → step (cs ++ us) s ≡ Err r → walk step end (cs ++ us) 0 s ≡ r
   walk_halt [] us s r some is = absurd (omega (arith, some))
   walk_halt (c ∷ cs) us s r some is = ap (λ r. go_on r (λ p. walk step end (cs ++ us) (p.0 - 1) p.1)) is

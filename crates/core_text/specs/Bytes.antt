@@ -27,8 +27,8 @@ abbrev pub is_upper : ℕ → Bool
 is_upper c = is_from 65 90 c
 
 -- an ASCII letter, a digit, '_' or '@'
-abbrev pub is_word_byte : ℕ → Bool
-is_word_byte c = is_lower c || is_upper c || is_digit c || c == 95 || c == 64
+abbrev pub is_name_byte : ℕ → Bool
+is_name_byte c = is_lower c || is_upper c || is_digit c || c == 95 || c == 64
 
 -- a byte of a character but its first
 abbrev pub is_continuation : ℕ → Bool
@@ -38,7 +38,7 @@ is_continuation c = is_from 128 191 c
 abbrev pub is_before_line_end : ℕ → Bool
 is_before_line_end c = if c == 10 then false else true
 
--- is there such a byte at the front?
+-- is there such a byte at the beginning?
 abbrev pub begins : (ℕ → Bool) → List ℕ → Bool
 begins test [] = false
 begins test (c ∷ s) = test c

@@ -4,7 +4,7 @@ use Rattle.std.specs.Char.{IsScalar}
 use Rattle.std.specs.Str.{IsUtf8}
 use Rattle.hipe_terms.specs.declared.place.Place.{Place}
 use Rattle.core_text.specs.Bytes.{is_from, is_octal, is_hex, begins, number_from}
-use Rattle.core_text.specs.Fronts.{AreAll, BeginsWithNone}
+use Rattle.core_text.specs.Prefixes.{AreAll, BeginsWithNone}
 use Rattle.core_text.specs.Places.{start, place_after}
 use Rattle.core_text.specs.Escapes.{simple_escape}
 
@@ -38,7 +38,7 @@ pub data IsQuoted : ℕ → List ℕ → List ℕ → List ℕ → Type 0 where
   code_point : {quote v : ℕ} {vs cs ds us : List ℕ} → IsCodePoint v cs (ds ++ us) → begins (λ c. c == quote) cs ≡ false → IsQuoted quote vs ds us
       → IsQuoted quote (v ∷ vs) (cs ++ ds) us
 
--- the first byte that isn't UTF-8 stands at this place: behind the longest front that is
+-- the first byte that isn't UTF-8 stands at this place: behind the longest prefix that is
 pub record IsIllFormed (s : List ℕ) (at : Place) : Type 0 where
   pub good : List ℕ
   pub bad : List ℕ

@@ -1,4 +1,4 @@
--- Code points: what a character or an escape at the front of a text means.
+-- Code points: what a character or an escape at the beginning of a text means.
 use Rattle.std.specs.Prelude.{ℕ, ◌+◌, ◌-◌, ◌*◌, ◌==◌, nat_le, if◌then◌else◌, List, [], ◌∷◌, ◌++◌, take, Option, Some, None, Result, Ok, Err}
 use Rattle.core_text.specs.declared.escape.Escape.{Escape}
 use Rattle.core_text.specs.declared.code_point.CodePoint.{CodePoint}
@@ -29,7 +29,7 @@ abbrev pub escaped : Option Escape → Option CodePoint
 escaped None = None
 escaped (Some e) = point e.value (e.length + 1)
 
--- the code point at the front, as itself or by an escape
+-- the code point at the beginning, as itself or by an escape
 unfoldable pub code_point_at : List ℕ → Option CodePoint
 code_point_at [] = None
 code_point_at (c ∷ s) = if c == 92 then escaped (escape_at s) else decoded (character_length (c ∷ s)) c s

@@ -1,4 +1,4 @@
--- What is read at the front of a text is what is spelled there, and what is spelled there is read: each law says both.
+-- What is read at the beginning of a text is what is spelled there, and what is spelled there is read: each law says both.
 use Rattle.std.specs.Prelude.{◌≡◌, ℕ, ◌+◌, ◌-◌, ◌<◌, ◌==◌, if◌then◌else◌, List, ◌++◌, length, take, Some, None}
 use Rattle.std.specs.Char.{IsScalar}
 use Rattle.std.specs.Str.{IsUtf8}
@@ -11,7 +11,7 @@ use Rattle.core_text.specs.CodePoints.{point, code_point_at, values_between}
 use Rattle.core_text.specs.Quotes.{quoted_at}
 use Rattle.core_text.specs.Fractions.{fraction_length}
 use Rattle.core_text.specs.Utf8.{ill_formed}
-use Rattle.core_text.specs.Fronts.{BeginsWith, BeginsWithNone}
+use Rattle.core_text.specs.Prefixes.{BeginsWith, BeginsWithNone}
 use Rattle.core_text.specs.Places.{place_after}
 use Rattle.core_text.specs.Characters.{IsCharacter, IsEscape, IsCodePoint, IsQuoted, IsIllFormed}
 use Rattle.core_text.specs.Numbers.{IsFraction}

@@ -6,7 +6,7 @@ pub mod Escapes
 pub mod CodePoints
 pub mod Quotes
 pub mod Fractions
-pub mod Fronts
+pub mod Prefixes
 pub mod Characters
 pub mod Numbers
 pub mod Laws

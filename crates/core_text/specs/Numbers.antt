@@ -1,7 +1,7 @@
 -- Integers and floats: what they are spelled like, and which number an integer means.
 use Rattle.std.specs.Prelude.{◌≡◌, ℕ, ℤ, pos, neg_ℤ, Bool, true, false, ◌||◌, ◌==◌, List, [], ◌∷◌, ◌++◌}
 use Rattle.core_text.specs.Bytes.{number_from}
-use Rattle.core_text.specs.Fronts.{AreDigits, BeginsWithNone}
+use Rattle.core_text.specs.Prefixes.{AreDigits, BeginsWithNone}
 
 -- a sign or none, and whether it is `-`
 pub data IsSign : List ℕ → Bool → Type 0 where

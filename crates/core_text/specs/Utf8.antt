@@ -29,7 +29,7 @@ abbrev pub longer_length : Option Sequence → List ℕ → Option ℕ
 longer_length None s = None
 longer_length (Some q) s = if goes_on q s then Some (q.more + 2) else None
 
--- how many bytes the character at the front has, if it is one
+-- how many bytes the character at the beginning has, if it is one
 unfoldable pub character_length : List ℕ → Option ℕ
 character_length [] = None
 character_length (c ∷ s) = if nat_le c 127 then Some 1 else longer_length (sequence_of c) s
@@ -52,7 +52,7 @@ ill_formed_from p text = walk character_step no_place text 0 p
 unfoldable pub ill_formed : List ℕ → Option Place
 ill_formed text = walk character_step no_place text 0 start
 
--- n bytes at the front of a text that goes on at the place p are UTF-8, and q is the place behind them
+-- n bytes at the beginning of a text that goes on at the place p are UTF-8, and q is the place behind them
 pub record ArePassed (s : List ℕ) (p : Place) (n : ℕ) (q : Place) : Type 0 where
   pub within : n ≤ length s
   pub utf8 : IsUtf8 (take n s)

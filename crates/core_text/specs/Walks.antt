@@ -1,4 +1,4 @@
--- A text is gone through from its front: a step says how many bytes it takes and what is known then, or it ends the way. The number counts the
+-- A text is gone through from its beginning: a step says how many bytes it takes and what is known then, or it ends the way. The number counts the
 -- bytes of the last step that are still ahead.
 use Rattle.std.specs.Prelude.{ℕ, zero, suc, ◌-◌, List, [], ◌∷◌, Result, Ok, Err}
 

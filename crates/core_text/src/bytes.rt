@@ -1,8 +1,8 @@
-// Kinds of bytes, counted at the front of a text, and numbers that digits stand for.
+// Kinds of bytes, counted at the beginning of a text, and numbers that digits stand for.
 
 ghost use Rattle.std.specs.Prelude.{◌≡◌, ℕ, ◌+◌, ◌-◌, ◌*◌, ◌^◌, ◌<◌, ◌≤◌, length, drop, take, IfSome, IfNone};
 ghost use Rattle.std.specs.List.{prefix_len};
-ghost use Rattle.core_text.specs.Bytes.{is_space, is_digit, is_octal, is_hex, is_lower, is_upper, is_word_byte, is_continuation, begins, digit_value, number_from};
+ghost use Rattle.core_text.specs.Bytes.{is_space, is_digit, is_octal, is_hex, is_lower, is_upper, is_name_byte, is_continuation, begins, digit_value, number_from};
 
 /// The base of decimal digits.
 pub const DECIMAL: u64 = 10;
@@ -50,8 +50,8 @@ pub fn is_upper(b: u8) -> bool
 }
 
 /// An ASCII letter, a digit, `_` or `@`.
-pub fn is_word_byte(b: u8) -> bool
-    ensures { result ≡ is_word_byte b }
+pub fn is_name_byte(b: u8) -> bool
+    ensures { result ≡ is_name_byte b }
 {
     b.is_ascii_lowercase() || b.is_ascii_uppercase() || b.is_ascii_digit() || b == b'_' || b == b'@'
 }
@@ -72,14 +72,14 @@ pub fn rest_from(text: &[u8], n: usize) -> &[u8]
 }
 
 /// The first n bytes of a text.
-pub fn front(text: &[u8], n: usize) -> &[u8]
+pub fn prefix(text: &[u8], n: usize) -> &[u8]
     requires { n ≤ length text.now }
     ensures { result.now ≡ take n text.now }
 {
     &text[..n]
 }
 
-/// How many decimal digits stand at the front.
+/// How many decimal digits stand at the beginning.
 pub fn digits(text: &[u8]) -> usize
     ensures count { result ≡ prefix_len is_digit text.now }
     ensures within { result ≤ length text.now }
@@ -87,7 +87,7 @@ pub fn digits(text: &[u8]) -> usize
     text.iter().take_while(|b| is_digit(**b)).count()
 }
 
-/// How many hexadecimal digits stand at the front.
+/// How many hexadecimal digits stand at the beginning.
 pub fn hex_digits(text: &[u8]) -> usize
     ensures count { result ≡ prefix_len is_hex text.now }
     ensures within { result ≤ length text.now }
@@ -95,7 +95,7 @@ pub fn hex_digits(text: &[u8]) -> usize
     text.iter().take_while(|b| is_hex(**b)).count()
 }
 
-/// How many octal digits stand at the front.
+/// How many octal digits stand at the beginning.
 pub fn octal_digits(text: &[u8]) -> usize
     ensures count { result ≡ prefix_len is_octal text.now }
     ensures within { result ≤ length text.now }
@@ -103,15 +103,15 @@ pub fn octal_digits(text: &[u8]) -> usize
     text.iter().take_while(|b| is_octal(**b)).count()
 }
 
-/// How many ASCII letters, digits, `_` and `@` stand at the front.
-pub fn word_bytes(text: &[u8]) -> usize
-    ensures count { result ≡ prefix_len is_word_byte text.now }
+/// How many ASCII letters, digits, `_` and `@` stand at the beginning.
+pub fn name_bytes(text: &[u8]) -> usize
+    ensures count { result ≡ prefix_len is_name_byte text.now }
     ensures within { result ≤ length text.now }
 {
-    text.iter().take_while(|b| is_word_byte(**b)).count()
+    text.iter().take_while(|b| is_name_byte(**b)).count()
 }
 
-/// How many bytes of a character but its first stand at the front.
+/// How many bytes of a character but its first stand at the beginning.
 pub fn continuations(text: &[u8]) -> usize
     ensures count { result ≡ prefix_len is_continuation text.now }
     ensures within { result ≤ length text.now }
@@ -119,7 +119,7 @@ pub fn continuations(text: &[u8]) -> usize
     text.iter().take_while(|b| is_continuation(**b)).count()
 }
 
-/// Whether a decimal digit stands at the front.
+/// Whether a decimal digit stands at the beginning.
 pub fn begins_with_digit(text: &[u8]) -> bool
     ensures { result ≡ begins is_digit text.now }
 {

@@ -3,10 +3,11 @@
 ghost use Rattle.std.specs.Prelude.{◌≡◌, ℕ, ◌+◌, ◌-◌, ◌*◌, ◌<◌, ◌≤◌, ◌^◌, length, IfSome, IfOk};
 ghost use Rattle.core_text.specs.CodePoints.{first_bits, with_bits, code_point_at, values_between};
 
-use crate::bytes::{front, rest_from};
+use crate::bytes::{prefix, rest_from};
 use crate::escape::escape_at;
 use crate::utf8::character_length;
-use std::alloc::{AllocError, Global};
+use hipe_base::Memory;
+use std::alloc::Global;
 
 /// A code point, and how many bytes it has in the text.
 #[derive(Clone, Copy)]
@@ -46,7 +47,7 @@ fn with_bits(bits: u32, bytes: &[u8]) -> u32
     bits as u32
 }
 
-/// The code point at the front, as itself or by an escape.
+/// The code point at the beginning, as itself or by an escape.
 #[tactic(auto, unfolding(crate::specs::CodePoints::code_point_at))]
 pub fn code_point_at(text: &[u8]) -> Option<CodePoint>
     requires { length text.now < 2 ^ 32 }
@@ -64,14 +65,14 @@ pub fn code_point_at(text: &[u8]) -> Option<CodePoint>
     }
     let length = character_length(text)?;
     Some(CodePoint {
-        value: with_bits(first_bits(first), front(rest, length - 1)),
+        value: with_bits(first_bits(first), prefix(rest, length - 1)),
         length,
     })
 }
 
 /// The code points of a text, up to the first that is ill-formed. The error is that memory ran out.
 #[tactic(auto, unfolding(crate::specs::CodePoints::values_between))]
-pub fn values_between(alloc: Global, text: &[u8]) -> Result<Vec<u32>, AllocError>
+pub fn values_between(alloc: Global, text: &[u8]) -> Result<Vec<u32>, Memory>
     requires { length text.now < 2 ^ 32 }
     ensures { IfOk result (λ v. v.items ≡ values_between text.now) }
 {

@@ -3,7 +3,7 @@
 ghost use Rattle.std.specs.Prelude.{◌≡◌, ℕ, ◌+◌, ◌<◌, ◌≤◌, ◌^◌, length, IfSome};
 ghost use Rattle.core_text.specs.Escapes.{simple_escape, is_scalar, octal_escape, control_escape, braced_escape, hex_escape, escape_at};
 
-use crate::bytes::{front, hex_digits, number_up_to, octal_digits, rest_from};
+use crate::bytes::{hex_digits, number_up_to, octal_digits, prefix, rest_from};
 
 // The greatest Unicode scalar value.
 const GREATEST_SCALAR: u64 = 0x10_FFFF;
@@ -53,7 +53,7 @@ fn octal_escape(text: &[u8]) -> Option<Escape>
     if length == 0 {
         return None;
     }
-    let value = number_up_to(front(text, length), 8, 0o777)?;
+    let value = number_up_to(prefix(text, length), 8, 0o777)?;
     Some(Escape {
         value: value as u32,
         length,
@@ -88,7 +88,7 @@ fn braced_escape(text: &[u8]) -> Option<Escape>
         Some(b'}') => {}
         _ => return None,
     }
-    let value = number_up_to(front(text, length), 16, GREATEST_SCALAR)?;
+    let value = number_up_to(prefix(text, length), 16, GREATEST_SCALAR)?;
     if is_scalar(value) {
         Some(Escape {
             value: value as u32,
@@ -111,7 +111,7 @@ fn hex_escape(text: &[u8]) -> Option<Escape>
     if hex_digits(text) < 2 {
         return None;
     }
-    let value = number_up_to(front(text, 2), 16, 0xFF)?;
+    let value = number_up_to(prefix(text, 2), 16, 0xFF)?;
     Some(Escape {
         value: value as u32,
         length: 3,

@@ -22,7 +22,7 @@ fn sign_length(text: &[u8]) -> usize
     }
 }
 
-// How many bytes an exponent at the front has.
+// How many bytes an exponent at the beginning has.
 fn exponent_length(text: &[u8]) -> usize
     ensures length { result ≡ exponent_length text.now }
     ensures within { result ≤ length text.now }
@@ -37,7 +37,7 @@ fn exponent_length(text: &[u8]) -> usize
     }
 }
 
-/// How many bytes a point, digits and an exponent at the front have; 0 where no digit stands behind a point.
+/// How many bytes a point, digits and an exponent at the beginning have; 0 where no digit stands behind a point.
 pub fn fraction_length(text: &[u8]) -> usize
     requires { length text.now < 2 ^ 32 }
     ensures length { result ≡ fraction_length text.now }

@@ -52,7 +52,7 @@ fn goes_on(sequence: Sequence, rest: &[u8]) -> bool
     }
 }
 
-/// How many bytes the character at the front has; `None` where none is there.
+/// How many bytes the character at the beginning has; `None` where none is there.
 #[tactic(auto, unfolding(crate::specs::Utf8::character_length))]
 pub fn character_length(text: &[u8]) -> Option<usize>
     ensures length { result ≡ character_length text.now }

@@ -3,15 +3,13 @@ use Rattle.std.proofs.Common.{◌≡◌, ◌⊎◌, inl, inr, ℕ, ◌+◌, ◌<
 use Rattle.std.specs.List.{prefix_len}
 use Rattle.std.proofs.lemmas.Bool.Decides.{nat_tests}
 use Rattle.core_text.specs.Bytes.{is_space, is_before_line_end}
-use Rattle.core_text.specs.Fronts.{BeginsWith, ArePassing}
-use Rattle.core_text.proofs.Fronts.{passing, count, behind_byte}
+use Rattle.core_text.specs.Prefixes.{BeginsWith, ArePassing}
+use Rattle.core_text.proofs.Prefixes.{passing, count, behind_byte}
 use Rattle.core_token.specs.declared.token.TokenKind.TheVariants.{Token}
 use Rattle.core_token.specs.Lexemes.{unquoted_at, lexeme_at}
 use Rattle.core_token.specs.Reading.{blank_length}
 use Rattle.core_token.specs.Spelling.{IsBlank, space, comment}
-
-is_equal : (a b : ℕ) → nat_eq a b ≡ true → b ≡ a
-is_equal a b h = grind (arith, nat_tests)
+use Rattle.core_text.proofs.Standing.{is_equal}
 
 comment_there : (s : List ℕ) → BeginsWith IsBlank (37 ∷ s) (prefix_len is_before_line_end s + 1)
 comment_there s = behind_byte (ArePassing is_before_line_end) IsBlank 37 (prefix_len is_before_line_end s) s (λ cs us h. comment h) (passing is_before_line_end s)
@@ -22,7 +20,7 @@ comment_by c s false is some = absurd (omega (arith, some))
 
 blank_by : (c : ℕ) (s : List ℕ) (b : Bool) → is_space c ≡ b → 0 < cond b 1 (cond (nat_eq c 37) (prefix_len is_before_line_end s + 1) 0)
     → BeginsWith IsBlank (c ∷ s) (cond b 1 (cond (nat_eq c 37) (prefix_len is_before_line_end s + 1) 0))
-blank_by c s true is some = record { front = c ∷ []; rest = s; is = refl; size = refl; holds = space is }
+blank_by c s true is some = record { prefix = c ∷ []; rest = s; is = refl; size = refl; holds = space is }
 blank_by c s false is some = comment_by c s (nat_eq c 37) refl some
 
 -- blanks that are counted are there

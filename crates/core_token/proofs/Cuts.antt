@@ -6,13 +6,13 @@ use Rattle.hipe_terms.specs.declared.place.Place.{Place}
 use Rattle.core_text.specs.Places.{start, place_after}
 use Rattle.core_text.specs.Walks.{walk, go_on}
 use Rattle.core_text.specs.Utf8.{ill_formed}
-use Rattle.core_text.specs.Fronts.{BeginsWith, BeginsWithNone}
+use Rattle.core_text.specs.Prefixes.{BeginsWith, BeginsWithNone}
 use Rattle.core_text.specs.Characters.{IsIllFormed}
 use Rattle.core_text.specs.Numbers.{IsInteger}
-use Rattle.core_text.proofs.Walks.{walk_front, walk_halt}
+use Rattle.core_text.proofs.Walks.{walk_prefix, walk_halt}
 use Rattle.core_text.proofs.IllFormed.{utf8_read, ill_formed_read, well_formed, ill_formed_at}
 use Rattle.hipe_terms.specs.Range.{is_in_range}
-use Rattle.hipe_terms.specs.declared.limits.TheConstants.{ATOM_LIMIT}
+use Rattle.hipe_base.specs.declared.limits.TheConstants.{ATOM_LIMIT}
 use Rattle.core_token.specs.declared.token.Sort.{Sort}
 use Rattle.core_token.specs.declared.token.Token.{Token}
 use Rattle.core_token.specs.declared.token.TokenKind.{TokenKind}
@@ -31,7 +31,7 @@ use Rattle.core_token.proofs.Spelled.{Told, told}
 use Rattle.core_token.proofs.Lexing.{lexeme_read, integer_read, atom_read}
 use Rattle.core_token.proofs.Sizes.{integer_some, atom_some, token_some}
 
--- one thing at a time stands at the front
+-- one thing at a time stands at the beginning
 apart : (f : Found) (kind : TokenKind) (sort : Sort) (n : ℕ) → f ≡ Err kind → f ≡ lexeme sort n → ⊥
 apart f kind sort n g h = cc
 
@@ -54,7 +54,7 @@ zeroth n h = grind (arith, nat_tests)
 -- where something else than a blank begins, none does
 no_blank_by : (s : List ℕ) (n : ℕ) → blank_length s ≡ n → (lexeme_at s ≡ Err TokenKind.Token → ⊥) → n ≡ 0
 no_blank_by s zero is other = refl
-no_blank_by s (suc n) is other = let b = blank_there s (omega (arith, is)) in absurd (other (ap lexeme_at b.is ∙ no_token b.front b.rest b.holds))
+no_blank_by s (suc n) is other = let b = blank_there s (omega (arith, is)) in absurd (other (ap lexeme_at b.is ∙ no_token b.prefix b.rest b.holds))
 
 token_no_blank : (sort : Sort) (cs us : List ℕ) → Spells sort cs us → blank_length (cs ++ us) ≡ 0
 token_no_blank sort cs us is = no_blank_by (cs ++ us) _ refl (λ h. apart _ TokenKind.Token sort (length cs) h (lexeme_read sort cs us is))
@@ -71,7 +71,7 @@ long_there s k (long_atom {vs = vs} {cs = cs} {us = us} is long) e h = h vs cs u
 long_there s k (nothing_there some blanks tokens integers atoms) e h = absurd (cc)
 
 no_token_by : (s : List ℕ) (f : Found) → Told s f → ((sort : Sort) → BeginsWithNone (Spells sort) s) → ((n : ℤ) → BeginsWithNone (IsInteger n) s) → ((vs : List ℕ) → BeginsWithNone (IsAtom vs) s) → f ≡ Err TokenKind.Token
-no_token_by s (Ok l) b tokens integers atoms = absurd (tokens l.sort b.front b.rest b.is b.holds)
+no_token_by s (Ok l) b tokens integers atoms = absurd (tokens l.sort b.prefix b.rest b.is b.holds)
 no_token_by s (Err WideInteger) b tokens integers atoms = absurd (wide_there s WideInteger b refl integers)
 no_token_by s (Err LongAtom) b tokens integers atoms = absurd (long_there s LongAtom b refl atoms)
 no_token_by s (Err TokenKind.Token) b tokens integers atoms = refl
@@ -83,7 +83,7 @@ fault_read s k (nothing_there some blanks tokens integers atoms) = no_token_by s
 
 no_blank_there : (s : List ℕ) (n : ℕ) → blank_length s ≡ n → BeginsWithNone IsBlank s → n ≡ 0
 no_blank_there s zero is h = refl
-no_blank_there s (suc n) is h = let b = blank_there s (omega (arith, is)) in absurd (h b.front b.rest b.is b.holds)
+no_blank_there s (suc n) is h = let b = blank_there s (omega (arith, is)) in absurd (h b.prefix b.rest b.is b.holds)
 
 wide_apart : (f : Found) → f ≡ Err WideInteger → f ≡ Err TokenKind.Token → ⊥
 wide_apart f g h = cc
@@ -158,12 +158,12 @@ abbrev pub StepGives : ℕ → List ℕ → Scan → Result (ℕ × Scan) Readin
 StepGives c t b r = ((n : ℕ) (u : Scan) → r ≡ Ok (n, u) → Gives (drop (n - 1) t) u.offset u.at u.tokens (walk scan_step scan_end t (n - 1) u)) →
     Gives (c ∷ t) b.offset b.at b.tokens (go_on r (λ p. walk scan_step scan_end t (p.0 - 1) p.1))
 
--- bytes at the front are passed
+-- bytes at the beginning are passed
 passed_rest : {R : List ℕ → List ℕ → Type 0} (c : ℕ) (t : List ℕ) (n : ℕ) (f : BeginsWith R (c ∷ t) n) → 0 < n → drop (n - 1) t ≡ f.rest
-passed_rest c t n f some = behind c t n some ∙ ap (drop n) f.is ∙ drop_at f.front f.rest n f.size
+passed_rest c t n f some = behind c t n some ∙ ap (drop n) f.is ∙ drop_at f.prefix f.rest n f.size
 
-passed_front : {R : List ℕ → List ℕ → Type 0} (s : List ℕ) (n : ℕ) (f : BeginsWith R s n) → take n s ≡ f.front
-passed_front s n f = ap (take n) f.is ∙ take_at f.front f.rest n f.size
+passed_prefix : {R : List ℕ → List ℕ → Type 0} (s : List ℕ) (n : ℕ) (f : BeginsWith R s n) → take n s ≡ f.prefix
+passed_prefix s n f = ap (take n) f.is ∙ take_at f.prefix f.rest n f.size
 
 token_case : (c : ℕ) (t : List ℕ) (b : Scan) (f : Result Lexeme TokenKind) → blank_length (c ∷ t) ≡ 0 → lexeme_at (c ∷ t) ≡ f → StepGives c t b (token_step (c ∷ t) b f)
 token_case c t b (Ok l) none is next =
@@ -171,10 +171,10 @@ token_case c t b (Ok l) none is next =
     let f : BeginsWith (Spells l.sort) s l.length = subst (Told s) is (told s) in
     let u = passed s l.length (with_token l b) in
     let r = walk scan_step scan_end t (l.length - 1) u in
-    let g = subst (λ w. Gives w u.offset u.at u.tokens r) (passed_rest c t l.length f (omega (arith, f.size, token_some l.sort f.front f.rest f.holds))) (next l.length u refl) in
-    let h = subst (λ q. Gives f.rest u.offset (place_after b.at q) u.tokens r) (passed_front s l.length f) g in
-    let P : ℕ → Type 0 = λ n. Gives f.rest (b.offset + n) (place_after b.at f.front) (with_token (record { sort = l.sort; length = n }) b).tokens r in
-    subst (λ w. Gives w b.offset b.at b.tokens r) (sym f.is) (gives_token l.sort f.front f.rest b r f.holds (subst P (sym f.size) h))
+    let g = subst (λ w. Gives w u.offset u.at u.tokens r) (passed_rest c t l.length f (omega (arith, f.size, token_some l.sort f.prefix f.rest f.holds))) (next l.length u refl) in
+    let h = subst (λ q. Gives f.rest u.offset (place_after b.at q) u.tokens r) (passed_prefix s l.length f) g in
+    let P : ℕ → Type 0 = λ n. Gives f.rest (b.offset + n) (place_after b.at f.prefix) (with_token (record { sort = l.sort; length = n }) b).tokens r in
+    subst (λ w. Gives w b.offset b.at b.tokens r) (sym f.is) (gives_token l.sort f.prefix f.rest b r f.holds (subst P (sym f.size) h))
 token_case c t b (Err kind) none is next = here (fault_there (c ∷ t) kind (omega arith) none is)
 
 blank_case : (c : ℕ) (t : List ℕ) (b : Scan) (n : ℕ) → 0 < n → blank_length (c ∷ t) ≡ n → StepGives c t b (Ok (n, passed (c ∷ t) n b))
@@ -184,9 +184,9 @@ blank_case c t b n some is next =
     let u = passed s n b in
     let r = walk scan_step scan_end t (n - 1) u in
     let g = subst (λ w. Gives w u.offset u.at u.tokens r) (passed_rest c t n f some) (next n u refl) in
-    let h = subst (λ q. Gives f.rest u.offset (place_after b.at q) b.tokens r) (passed_front s n f) g in
-    let P : ℕ → Type 0 = λ n. Gives f.rest (b.offset + n) (place_after b.at f.front) b.tokens r in
-    subst (λ w. Gives w b.offset b.at b.tokens r) (sym f.is) (gives_blank f.front f.rest b r f.holds (subst P (sym f.size) h))
+    let h = subst (λ q. Gives f.rest u.offset (place_after b.at q) b.tokens r) (passed_prefix s n f) g in
+    let P : ℕ → Type 0 = λ n. Gives f.rest (b.offset + n) (place_after b.at f.prefix) b.tokens r in
+    subst (λ w. Gives w b.offset b.at b.tokens r) (sym f.is) (gives_blank f.prefix f.rest b r f.holds (subst P (sym f.size) h))
 
 step_case : (c : ℕ) (t : List ℕ) (b : Scan) (x : Bool) → nat_eq (blank_length (c ∷ t)) 0 ≡ x → StepGives c t b (cond x (token_step (c ∷ t) b (lexeme_at (c ∷ t))) (Ok (blank_length (c ∷ t), passed (c ∷ t) (blank_length (c ∷ t)) b)))
 step_case c t b true is = token_case c t b (lexeme_at (c ∷ t)) (grind (arith, nat_tests)) refl
@@ -226,7 +226,7 @@ over_blank : (cs us : List ℕ) (before : List Token) (p : Place) (i : ℕ) → 
     → walk scan_step scan_end (cs ++ us) 0 (at_place before p i) ≡ walk scan_step scan_end us 0 (at_place before (place_after p cs) (i + length cs))
 over_blank cs us before p i is =
     let b = at_place before p i in
-    walk_front scan_step scan_end cs us (length cs) b (passed (cs ++ us) (length cs) b) refl (blank_some cs us is) (blank_step cs us b is)
+    walk_prefix scan_step scan_end cs us (length cs) b (passed (cs ++ us) (length cs) b) refl (blank_some cs us is) (blank_step cs us b is)
     ∙ ap (λ q. walk scan_step scan_end us 0 (at_place before (place_after p q) (i + length cs))) (take_at cs us (length cs) refl)
 
 abbrev pub token_at : Sort → Place → ℕ → ℕ → Token
@@ -239,7 +239,7 @@ over_token sort cs us before p i is =
     let s = cs ++ us in
     let l : Lexeme = record { sort = sort; length = length cs } in
     let more = before ++ token_at sort p i (length cs) ∷ [] in
-    walk_front scan_step scan_end cs us (length cs) b (passed s (length cs) (with_token l b)) refl (token_some sort cs us is)
+    walk_prefix scan_step scan_end cs us (length cs) b (passed s (length cs) (with_token l b)) refl (token_some sort cs us is)
     (no_blank_step s b (Ok l) (token_no_blank sort cs us is) (lexeme_read sort cs us is))
     ∙ ap (λ q. walk scan_step scan_end us 0 (at_place more (place_after p q) (i + length cs))) (take_at cs us (length cs) refl)
 

@@ -1,4 +1,4 @@
--- A token that is spelled at the front of a text is taken, and so are a wide integer and a long atom for what they are.
+-- A token that is spelled at the beginning of a text is taken, and so are a wide integer and a long atom for what they are.
 use Rattle.std.proofs.Common.{◌≡◌, ◌⊎◌, inl, inr, ℕ, ◌+◌, ◌<◌, ◌≤◌, Bool, true, false, cond, ◌||◌, ◌&&◌, nat_eq, nat_lt, nat_le, ℤ, List, [], ◌∷◌, ◌++◌, length, take, drop, Err, refl, ap, sym, ◌∙◌, subst, append_assoc, length-append, arith}
 use Rattle.std.specs.Prelude.{codes}
 use Rattle.std.specs.List.{prefix_len, AllByRecursion}
@@ -6,22 +6,22 @@ use Rattle.std.specs.Cmp.Lexicographic.{pointwise, same_text}
 use Rattle.std.proofs.lemmas.Bool.Decides.{nat_tests}
 use Rattle.std.proofs.lemmas.List.{take_at, drop_at}
 use Rattle.std.proofs.lemmas.List.Folds.{prefix_len-append}
-use Rattle.hipe_terms.specs.declared.limits.TheConstants.{ATOM_LIMIT}
+use Rattle.hipe_base.specs.declared.limits.TheConstants.{ATOM_LIMIT}
 use Rattle.hipe_terms.specs.Range.{is_in_range}
-use Rattle.core_text.specs.Bytes.{is_digit, is_upper, is_lower, is_word_byte, begins, number_from}
+use Rattle.core_text.specs.Bytes.{is_digit, is_upper, is_lower, is_name_byte, begins, number_from}
 use Rattle.core_text.specs.Fractions.{is_sign_byte, fraction_length}
-use Rattle.core_text.specs.Fronts.{ArePassing, AreDigits}
+use Rattle.core_text.specs.Prefixes.{ArePassing, AreDigits}
 use Rattle.core_text.specs.Characters.{IsCodePoint, IsQuoted}
 use Rattle.core_text.specs.Numbers.{IsSign, none, plus, minus, signed, IsInteger, integer as spelled_integer, IsFloat, float as spelled_float}
-use Rattle.core_text.proofs.Fronts.{count, stops}
+use Rattle.core_text.proofs.Prefixes.{count, stops}
 use Rattle.core_text.proofs.Points.{point_read}
 use Rattle.core_text.proofs.Quoting.{quoted_read}
 use Rattle.core_text.proofs.Fractions.{fraction_read, fraction_some, fraction_none}
 use Rattle.core_token.specs.declared.token.Sort.{Sort}
 use Rattle.core_token.specs.declared.token.Sort.TheVariants.{Atom, Variable, Integer, Float, Character, Text, Word, Sign}
 use Rattle.core_token.specs.declared.token.TokenKind.TheVariants.{Token, WideInteger, LongAtom}
-use Rattle.core_token.specs.Lexemes.{Found, lexeme, atom_of, text_of, character_by, number_at, is_among, words, is_word, is_byte_among, is_short_sign, unquoted_at, lexeme_at}
-use Rattle.core_token.specs.Spelling.{IsAtom, quoted, Spells, atom, text, character, variable, integer, float, word, sign, dash_sign}
+use Rattle.core_token.specs.Lexemes.{Found, lexeme, atom_of, text_of, character_by, number_at, is_among, keywords, is_keyword, is_byte_among, is_short_sign, unquoted_at, lexeme_at}
+use Rattle.core_token.specs.Spelling.{IsAtom, quoted, Spells, atom, text, character, variable, integer, float, keyword, sign, dash_sign}
 use Rattle.core_token.proofs.Spelled.{most, in_range}
 
 skip : (b : Bool) (x y : Found) → b ≡ false → cond b x y ≡ y
@@ -66,10 +66,10 @@ name_sign c is = grind (arith, nat_tests)
 and_false : (a b : Bool) → a ≡ false → (a && b) ≡ false
 and_false a b h = ap (λ a. a && b) h
 
-variable_read : (c : ℕ) (cs us : List ℕ) → (is_upper c || nat_eq c 95) ≡ true → ArePassing is_word_byte cs us → lexeme_at (c ∷ cs ++ us) ≡ lexeme Variable (length (c ∷ cs))
+variable_read : (c : ℕ) (cs us : List ℕ) → (is_upper c || nat_eq c 95) ≡ true → ArePassing is_name_byte cs us → lexeme_at (c ∷ cs ++ us) ≡ lexeme Variable (length (c ∷ cs))
 unfolding lexeme_at unquoted_at
 variable_read c cs us is h =
-    let n : prefix_len is_word_byte (cs ++ us) ≡ length cs = count is_word_byte cs us h.0 h.1 in
+    let n : prefix_len is_name_byte (cs ++ us) ≡ length cs = count is_name_byte cs us h.0 h.1 in
     skip _ _ _ (name_39 c is) ∙ skip _ _ _ (name_34 c is) ∙ skip _ _ _ (name_36 c is) ∙ skip _ _ _ (name_digit c is)
     ∙ skip _ _ _ (and_false _ _ (name_sign c is)) ∙ pick _ _ _ is ∙ size Variable _ _ (omega (arith, n))
 
@@ -132,10 +132,10 @@ float_read cs us (spelled_float {ss = ss} {b = b} ds fs vs is digits h) =
     ∙ skip _ _ _ (parts (fraction_length (fs ++ us)) (omega (arith, n, fraction_some fs us h)))
     ∙ size Float (length ss + length ds + fraction_length (fs ++ us)) (length (ss ++ ds ++ fs)) (omega (arith, n, length-append (ss ++ ds) fs, length-append ss ds))
 
--- words
+-- keywords
 abbrev pub is_name : List ℕ → Bool
 is_name [] = false
-is_name (c ∷ t) = is_lower c && nat_eq (prefix_len is_word_byte t) (length t)
+is_name (c ∷ t) = is_lower c && nat_eq (prefix_len is_name_byte t) (length t)
 
 among_by : (P : List ℕ → Type 0) (cs w : List ℕ) (b r : Bool) → pointwise nat_eq cs w ≡ b → P w → (r ≡ true → P cs) → (b || r) ≡ true → P cs
 among_by P cs w true r is h rest some = subst P (sym (same_text cs w (sym is))) h
@@ -148,13 +148,13 @@ among P cs (w ∷ ws) all some = among_by P cs w (pointwise nat_eq cs w) (is_amo
 abbrev pub IsName : List ℕ → Type 0
 IsName w = is_name w ≡ true
 
-all_names : AllByRecursion IsName words
+all_names : AllByRecursion IsName keywords
 all_names =
     (refl, (refl, (refl, (refl, (refl, (refl, (refl, (refl, (refl, (refl, (refl, (refl, (refl, (refl, (refl, (refl, (refl, (refl, (refl, tt)))))))))))))))))))
 
-pub name_of : (cs : List ℕ) → is_word cs ≡ true → is_name cs ≡ true
-unfolding is_word
-name_of cs is = among IsName cs words all_names is
+pub name_of : (cs : List ℕ) → is_keyword cs ≡ true → is_name cs ≡ true
+unfolding is_keyword
+name_of cs is = among IsName cs keywords all_names is
 
 pub both : (a b : Bool) → (a && b) ≡ true → (a ≡ true) × (b ≡ true)
 both true b h = (refl, h)
@@ -163,10 +163,10 @@ both false b h = absurd (cc)
 pub equal : (m n : ℕ) → nat_eq m n ≡ true → m ≡ n
 equal m n h = grind (arith, nat_tests)
 
-name_count : (t us : List ℕ) → prefix_len is_word_byte t ≡ length t → begins is_word_byte us ≡ false → prefix_len is_word_byte (t ++ us) ≡ length t
+name_count : (t us : List ℕ) → prefix_len is_name_byte t ≡ length t → begins is_name_byte us ≡ false → prefix_len is_name_byte (t ++ us) ≡ length t
 name_count t us all ends =
-    let n : nat_eq (prefix_len is_word_byte t) (length t) ≡ true = grind (arith, nat_tests) in
-    prefix_len-append is_word_byte t us ∙ ap (λ b. cond b (length t + prefix_len is_word_byte us) (prefix_len is_word_byte t)) n ∙ omega (arith, stops is_word_byte us ends)
+    let n : nat_eq (prefix_len is_name_byte t) (length t) ≡ true = grind (arith, nat_tests) in
+    prefix_len-append is_name_byte t us ∙ ap (λ b. cond b (length t + prefix_len is_name_byte us) (prefix_len is_name_byte t)) n ∙ omega (arith, stops is_name_byte us ends)
 
 lower_39 : (c : ℕ) → is_lower c ≡ true → nat_eq c 39 ≡ false
 lower_39 c is = grind (arith, nat_tests)
@@ -186,16 +186,16 @@ lower_sign c is = grind (arith, nat_tests)
 lower_name : (c : ℕ) → is_lower c ≡ true → (is_upper c || nat_eq c 95) ≡ false
 lower_name c is = grind (arith, nat_tests)
 
-word_read : (cs us : List ℕ) → is_word cs ≡ true → is_name cs ≡ true → begins is_word_byte us ≡ false → lexeme_at (cs ++ us) ≡ lexeme Word (length cs)
+keyword_read : (cs us : List ℕ) → is_keyword cs ≡ true → is_name cs ≡ true → begins is_name_byte us ≡ false → lexeme_at (cs ++ us) ≡ lexeme Word (length cs)
 unfolding lexeme_at unquoted_at
-word_read [] us is name ends = absurd (cc)
-word_read (c ∷ t) us is name ends =
+keyword_read [] us is name ends = absurd (cc)
+keyword_read (c ∷ t) us is name ends =
     let h = both _ _ name in
     let s = c ∷ t ++ us in
-    let e : prefix_len is_word_byte (t ++ us) + 1 ≡ length (c ∷ t) = let k = name_count t us (equal _ _ h.1) ends in omega (arith, k) in
+    let e : prefix_len is_name_byte (t ++ us) + 1 ≡ length (c ∷ t) = let k = name_count t us (equal _ _ h.1) ends in omega (arith, k) in
     skip _ _ _ (lower_39 c h.0) ∙ skip _ _ _ (lower_34 c h.0) ∙ skip _ _ _ (lower_36 c h.0) ∙ skip _ _ _ (lower_digit c h.0) ∙ skip _ _ _ (and_false _ _ (lower_sign c h.0))
-    ∙ skip _ _ _ (lower_name c h.0) ∙ pick _ _ _ h.0 ∙ ap (λ n. cond (is_word (take n s)) (lexeme Word n) (Err Token)) e
-    ∙ pick _ _ _ (ap is_word (take_at (c ∷ t) us (length (c ∷ t)) refl) ∙ is)
+    ∙ skip _ _ _ (lower_name c h.0) ∙ pick _ _ _ h.0 ∙ ap (λ n. cond (is_keyword (take n s)) (lexeme Word n) (Err Token)) e
+    ∙ pick _ _ _ (ap is_keyword (take_at (c ∷ t) us (length (c ∷ t)) refl) ∙ is)
 
 -- signs
 abbrev pub is_no_sign : ℕ → Bool
@@ -252,6 +252,6 @@ lexeme_read sort cs us (character {v = v} {cs = ds} is) = character_read v ds us
 lexeme_read sort cs us (variable {c = c} {cs = ds} first h) = variable_read c ds us first h
 lexeme_read sort cs us (integer {n = n} is few) = integer_read n cs us is ∙ pick _ _ _ few
 lexeme_read sort cs us (float is) = float_read cs us is
-lexeme_read sort cs us (word is ends) = word_read cs us is (name_of cs is) ends
+lexeme_read sort cs us (keyword is ends) = keyword_read cs us is (name_of cs is) ends
 lexeme_read sort cs us (sign {c = c} is) = sign_read c us is
 lexeme_read sort cs us (dash_sign {d = d} is) = dash_by d us (dash_cases d is)

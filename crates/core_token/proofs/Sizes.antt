@@ -2,7 +2,7 @@
 use Rattle.std.proofs.Common.{◌≡◌, ℕ, ◌<◌, true, ℤ, List, [], ◌∷◌, ◌++◌, length, length-append, arith}
 use Rattle.core_text.specs.Numbers.{IsInteger, integer as spelled_integer, IsFloat, float as spelled_float}
 use Rattle.core_token.specs.declared.token.Sort.{Sort}
-use Rattle.core_token.specs.Spelling.{IsAtom, quoted, Spells, atom, text, character, variable, integer, float, word, sign, dash_sign}
+use Rattle.core_token.specs.Spelling.{IsAtom, quoted, Spells, atom, text, character, variable, integer, float, keyword, sign, dash_sign}
 use Rattle.core_token.proofs.Lexing.{name_of, is_name}
 
 pub integer_some : (n : ℤ) (cs us : List ℕ) → IsInteger n cs us → 0 < length cs
@@ -25,6 +25,6 @@ token_some sort cs us (character is) = omega arith
 token_some sort cs us (variable first h) = omega arith
 token_some sort cs us (integer {n = n} is few) = integer_some n cs us is
 token_some sort cs us (float is) = float_some cs us is
-token_some sort cs us (word is ends) = name_some cs (name_of cs is)
+token_some sort cs us (keyword is ends) = name_some cs (name_of cs is)
 token_some sort cs us (sign is) = omega arith
 token_some sort cs us (dash_sign is) = omega arith

@@ -5,13 +5,13 @@ use Rattle.std.specs.List.{AllByRecursion}
 use Rattle.std.specs.Str.{all_scalars}
 use Rattle.std.proofs.lemmas.Bool.Decides.{nat_tests}
 use Rattle.std.proofs.lemmas.List.{append-nil, take_at, drop_at, drop-drop}
-use Rattle.hipe_terms.specs.declared.limits.TheConstants.{ATOM_LIMIT}
+use Rattle.hipe_base.specs.declared.limits.TheConstants.{ATOM_LIMIT}
 use Rattle.hipe_terms.specs.declared.place.Place.{Place}
 use Rattle.hipe_terms.specs.Range.{is_in_range}
 use Rattle.core_text.specs.Places.{start, place_after}
 use Rattle.core_text.specs.Bytes.{is_digit, number_from}
 use Rattle.core_text.specs.CodePoints.{code_point_at, values_between}
-use Rattle.core_text.specs.Fronts.{AreDigits}
+use Rattle.core_text.specs.Prefixes.{AreDigits}
 use Rattle.core_text.specs.Characters.{IsCodePoint, IsQuoted}
 use Rattle.core_text.specs.Numbers.{IsSign, none, plus, minus, signed, IsInteger, integer as spelled_integer}
 use Rattle.core_text.proofs.Points.{point_read, point_cut}
@@ -20,7 +20,7 @@ use Rattle.core_text.proofs.Scalars.{point_scalar, quoted_scalars}
 use Rattle.core_token.specs.declared.token.Sort.{Sort}
 use Rattle.core_token.specs.declared.token.Token.{Token}
 use Rattle.core_token.specs.Lexemes.{greatest_integer, farthest_below}
-use Rattle.core_token.specs.Spelling.{IsAtom, quoted, Spells, atom, text, character, variable, integer, float, word, sign, dash_sign}
+use Rattle.core_token.specs.Spelling.{IsAtom, quoted, Spells, atom, text, character, variable, integer, float, keyword, sign, dash_sign}
 use Rattle.core_token.specs.Values.{decimal, positive, negative, integer_of, value_of, character_of, code_points_of, HasValue}
 use Rattle.core_token.specs.declared.token.TokenFault.{TokenFault}
 use Rattle.core_token.specs.Reading.{read, Answers}
@@ -87,7 +87,7 @@ valued sort cs us (character {v = v} {cs = ds} is) = (v, character_there v ds us
 valued sort cs us (variable first h) = tt
 valued sort cs us (integer {n = n} is few) = (n, integer_there n cs us is few, few)
 valued sort cs us (float is) = tt
-valued sort cs us (word is ends) = tt
+valued sort cs us (keyword is ends) = tt
 valued sort cs us (sign is) = tt
 valued sort cs us (dash_sign is) = tt
 

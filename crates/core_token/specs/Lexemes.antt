@@ -1,11 +1,11 @@
--- The token at the front of a text: what it is and how many bytes it has, or why there is none.
+-- The token at the beginning of a text: what it is and how many bytes it has, or why there is none.
 use Rattle.std.specs.Prelude.{ℕ, ◌+◌, Bool, false, ◌||◌, ◌&&◌, ◌==◌, nat_eq, nat_le, nat_lt, nat_abs, if◌then◌else◌, List, [], ◌∷◌, take, drop, codes, Option, Some, None, Result, Ok, Err}
 use Rattle.std.specs.List.{prefix_len}
 use Rattle.std.specs.Cmp.Lexicographic.{pointwise}
-use Rattle.hipe_terms.specs.declared.limits.TheConstants.{ATOM_LIMIT, GREATEST_INTEGER, LEAST_INTEGER}
+use Rattle.hipe_base.specs.declared.limits.TheConstants.{ATOM_LIMIT, GREATEST_INTEGER, LEAST_INTEGER}
 use Rattle.core_text.specs.declared.quoted.Quoted.{Quoted}
 use Rattle.core_text.specs.declared.code_point.CodePoint.{CodePoint}
-use Rattle.core_text.specs.Bytes.{is_digit, is_lower, is_upper, is_word_byte, begins, number_from}
+use Rattle.core_text.specs.Bytes.{is_digit, is_lower, is_upper, is_name_byte, begins, number_from}
 use Rattle.core_text.specs.CodePoints.{code_point_at}
 use Rattle.core_text.specs.Quotes.{quoted_at}
 use Rattle.core_text.specs.Fractions.{is_sign_byte, fraction_length}
@@ -53,15 +53,15 @@ greatest_integer = nat_abs GREATEST_INTEGER
 abbrev pub farthest_below : ℕ
 farthest_below = nat_abs LEAST_INTEGER
 
--- words and signs ----------------------------------------------------------------------------------------------------------------------------
+-- keywords and signs ----------------------------------------------------------------------------------------------------------------------------
 
 abbrev pub is_among : List ℕ → List (List ℕ) → Bool
 is_among cs [] = false
 is_among cs (w ∷ ws) = pointwise nat_eq cs w || is_among cs ws
 
--- the words of the language
-abbrev pub words : List (List ℕ)
-words =
+-- the keywords of the language
+abbrev pub keywords : List (List ℕ)
+keywords =
     codes "after"
     ∷ codes "apply"
     ∷ codes "attributes"
@@ -83,8 +83,8 @@ words =
     ∷ codes "when"
     ∷ []
 
-unfoldable pub is_word : List ℕ → Bool
-is_word cs = is_among cs words
+unfoldable pub is_keyword : List ℕ → Bool
+is_keyword cs = is_among cs keywords
 
 abbrev pub is_byte_among : ℕ → List ℕ → Bool
 is_byte_among c [] = false
@@ -95,8 +95,8 @@ abbrev pub is_short_sign : ℕ → Bool
 is_short_sign c = is_byte_among c (codes "(){}[]<>,=/:|#~")
 
 -- lower-case letters and what goes on with them
-abbrev pub word_at : List ℕ → Found
-word_at s = let n = prefix_len is_word_byte (drop 1 s) + 1 in if is_word (take n s) then lexeme Word n else Err Token
+abbrev pub keyword_at : List ℕ → Found
+keyword_at s = let n = prefix_len is_name_byte (drop 1 s) + 1 in if is_keyword (take n s) then lexeme Word n else Err Token
 
 -- how many bytes the sign has that begins with the byte c before s; 0 where none does
 abbrev pub sign_length : ℕ → List ℕ → ℕ
@@ -108,16 +108,16 @@ sign_at c s =
     if is_short_sign c then lexeme Sign 1
     else (if c == 45 then (if begins (λ d. d == 62 || d == 124) s then lexeme Sign 2 else Err Token) else Err Token)
 
--- the token at the front ----------------------------------------------------------------------------------------------------------------------
+-- the token at the beginning ----------------------------------------------------------------------------------------------------------------------
 
--- a number, a variable, a word or a sign
+-- a number, a variable, a keyword or a sign
 unfoldable pub unquoted_at : List ℕ → Found
 unquoted_at [] = Err Token
 unquoted_at (c ∷ s) =
     if is_digit c then number_at 0 greatest_integer (c ∷ s)
     else (if is_sign_byte c && begins is_digit s then number_at 1 (if c == 45 then farthest_below else greatest_integer) s
-    else (if is_upper c || c == 95 then lexeme Variable (prefix_len is_word_byte s + 1)
-    else (if is_lower c then word_at (c ∷ s) else sign_at c s)))
+    else (if is_upper c || c == 95 then lexeme Variable (prefix_len is_name_byte s + 1)
+    else (if is_lower c then keyword_at (c ∷ s) else sign_at c s)))
 
 unfoldable pub lexeme_at : List ℕ → Found
 lexeme_at [] = Err Token

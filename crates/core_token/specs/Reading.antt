@@ -18,7 +18,7 @@ use Rattle.core_token.specs.Lexemes.{lexeme_at}
 abbrev pub Reading : Type 0
 Reading = Result (List Token) (TokenKind × Place)
 
--- how many bytes of white space or of a comment stand at the front: one, or those of the comment up to the end of the line
+-- how many bytes of white space or of a comment stand at the beginning: one, or those of the comment up to the end of the line
 abbrev pub blank_length : List ℕ → ℕ
 blank_length [] = 0
 blank_length (c ∷ s) = if is_space c then 1 else (if c == 37 then prefix_len is_before_line_end s + 1 else 0)

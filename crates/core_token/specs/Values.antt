@@ -2,7 +2,7 @@
 use Rattle.std.specs.Prelude.{◌≡◌, ℕ, ◌-◌, ◌≤◌, ℤ, pos, neg_ℤ, true, ◌==◌, nat_le, if◌then◌else◌, List, [], ◌∷◌, length, take, drop, Option, Some, None}
 use Rattle.std.specs.Char.{IsScalar}
 use Rattle.std.specs.Str.{all_scalars}
-use Rattle.hipe_terms.specs.declared.limits.TheConstants.{ATOM_LIMIT}
+use Rattle.hipe_base.specs.declared.limits.TheConstants.{ATOM_LIMIT}
 use Rattle.hipe_terms.specs.Range.{is_in_range}
 use Rattle.core_text.specs.declared.code_point.CodePoint.{CodePoint}
 use Rattle.core_text.specs.Bytes.{number_from}

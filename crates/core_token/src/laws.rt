@@ -13,7 +13,7 @@ pub fn tokens_are_read()
 {}
 
 /// Each token of a text stands in it, in the order of the text, and has the value of its sort: an integer its number, which
-/// is in the range, a character its code point, an atom and a text their code points, those of an atom at most 255.
+/// is in the range, a character its code point, an atom and a text their code points, those of an atom at most `ATOM_LIMIT`.
 pub fn tokens_stand()
     ensures { TokensStand }
 {}

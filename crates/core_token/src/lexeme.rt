@@ -1,19 +1,19 @@
-// The token at the front of a text.
+// The token at the beginning of a text.
 
 ghost use Rattle.std.specs.Prelude.{◌≡◌, ℕ, ◌+◌, ◌<◌, ◌≤◌, ◌^◌, length, map, IfOk};
 ghost use Rattle.core_text.specs.Quotes.{quoted_at};
 ghost use Rattle.core_text.specs.CodePoints.{code_point_at};
-ghost use Rattle.core_token.specs.Lexemes.{atom_of, text_of, character_by, is_among, is_word, sign_length, word_at, sign_at, unquoted_at, lexeme_at};
+ghost use Rattle.core_token.specs.Lexemes.{atom_of, text_of, character_by, is_among, is_keyword, sign_length, keyword_at, sign_at, unquoted_at, lexeme_at};
 
 use crate::number::number_at;
 use crate::token::{Sort, TokenKind};
 use core_text::bytes::{
-    begins_with_digit, front, is_digit, is_lower, is_upper, rest_from, word_bytes,
+    begins_with_digit, is_digit, is_lower, is_upper, name_bytes, prefix, rest_from,
 };
 use core_text::code_point::code_point_at;
 use core_text::fraction::is_sign_byte;
 use core_text::quoted::quoted_at;
-use hipe_terms::limits::{ATOM_LIMIT, GREATEST_INTEGER, LEAST_INTEGER};
+use hipe_base::limits::{ATOM_LIMIT, GREATEST_INTEGER, LEAST_INTEGER};
 
 /// The greatest number that the digits of an integer stand for, without a sign or behind `+`.
 pub const GREATEST: u64 = GREATEST_INTEGER as u64;
@@ -76,8 +76,8 @@ fn character_at(text: &[u8]) -> Result<Lexeme, TokenKind>
     }
 }
 
-// The words of the language.
-const WORDS: [&[u8]; 19] = [
+// The keywords of the language.
+const KEYWORDS: [&[u8]; 19] = [
     b"after",
     b"apply",
     b"attributes",
@@ -99,22 +99,22 @@ const WORDS: [&[u8]; 19] = [
     b"when",
 ];
 
-fn is_among(bytes: &[u8], words: &[&[u8]]) -> bool
-    ensures { result ≡ is_among bytes.now (map (λ w. w.now) words.now) }
+fn is_among(bytes: &[u8], keywords: &[&[u8]]) -> bool
+    ensures { result ≡ is_among bytes.now (map (λ w. w.now) keywords.now) }
 {
-    for word in words {
-        if bytes == *word {
+    for keyword in keywords {
+        if bytes == *keyword {
             return true;
         }
     }
     false
 }
 
-#[tactic(auto, unfolding(crate::specs::Lexemes::is_word))]
-fn is_word(bytes: &[u8]) -> bool
-    ensures { result ≡ is_word bytes.now }
+#[tactic(auto, unfolding(crate::specs::Lexemes::is_keyword))]
+fn is_keyword(bytes: &[u8]) -> bool
+    ensures { result ≡ is_keyword bytes.now }
 {
-    is_among(bytes, &WORDS)
+    is_among(bytes, &KEYWORDS)
 }
 
 // How many bytes the sign has that begins with this byte before the text; 0 where none does.
@@ -143,15 +143,15 @@ fn sign_length(first: u8, text: &[u8]) -> usize
     }
 }
 
-// A word.
-fn word_at(text: &[u8]) -> Result<Lexeme, TokenKind>
+// A keyword.
+fn keyword_at(text: &[u8]) -> Result<Lexeme, TokenKind>
     requires some { 0 < length text.now }
     requires short { length text.now < 2 ^ 32 }
-    ensures lexeme { result ≡ word_at text.now }
+    ensures lexeme { result ≡ keyword_at text.now }
     ensures within { IfOk result (λ l. (0 < l.length) × (l.length ≤ length text.now)) }
 {
-    let length = word_bytes(rest_from(text, 1)) + 1;
-    if is_word(front(text, length)) {
+    let length = name_bytes(rest_from(text, 1)) + 1;
+    if is_keyword(prefix(text, length)) {
         Ok(Lexeme {
             sort: Sort::Word,
             length,
@@ -176,7 +176,7 @@ fn sign_at(first: u8, text: &[u8]) -> Result<Lexeme, TokenKind>
     })
 }
 
-// A number, a variable, a word or a sign.
+// A number, a variable, a keyword or a sign.
 #[tactic(auto, unfolding(crate::specs::Lexemes::unquoted_at))]
 fn unquoted_at(text: &[u8]) -> Result<Lexeme, TokenKind>
     requires { length text.now < 2 ^ 32 }
@@ -202,17 +202,17 @@ fn unquoted_at(text: &[u8]) -> Result<Lexeme, TokenKind>
     if is_upper(first) || first == b'_' {
         return Ok(Lexeme {
             sort: Sort::Variable,
-            length: word_bytes(rest) + 1,
+            length: name_bytes(rest) + 1,
         });
     }
     if is_lower(first) {
-        word_at(text)
+        keyword_at(text)
     } else {
         sign_at(first, rest)
     }
 }
 
-/// The token at the front of a text.
+/// The token at the beginning of a text.
 #[tactic(auto, unfolding(crate::specs::Lexemes::lexeme_at))]
 pub fn lexeme_at(text: &[u8]) -> Result<Lexeme, TokenKind>
     requires { length text.now < 2 ^ 32 }

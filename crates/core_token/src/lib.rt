@@ -1,17 +1,19 @@
 // The tokens of a text of Core Erlang.
 //
-// `tokens` cuts a text into its tokens: atoms, variables, integers, floats, characters, texts, words and signs, each with its
-// place and its bytes. It promises the one list of tokens that the text has, or the first fault with its kind and place. A text
-// that isn't UTF-8 is refused at its first ill-formed byte, before anything else.
+// Promises: `tokens` cuts a text into its tokens: atoms, variables, integers, floats, characters, texts, keywords and signs, each with
+// its place and its bytes. It answers the one list of tokens that the text has, or the first fault with its kind and place, or that
+// memory ran out. A text that isn't UTF-8 is refused at its first ill-formed byte, before anything else.
 //
 // The rules are specs/Spelling.antt, what each sort of token is spelled like, and specs/Text.antt, which list of tokens and which
 // first fault a text has. They cite no function that reads: that what is read is what they say, and that there is one answer, is
 // proved. What stands below tokens, as characters, escapes and places, is in core_text.
 //
+// May touch: memory alone, for the list and for code points.
+//
 // Files:
 //   token.rt      tokens, lists of tokens, and faults
 //   number.rt     integers and floats
-//   lexeme.rt     the token at the front of a text
+//   lexeme.rt     the token at the beginning of a text
 //   scan.rt       the tokens of a whole text
 //   value.rt      what tokens mean: numbers and code points
 //   laws.rt       what holds of the tokens of every text

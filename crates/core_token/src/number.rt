@@ -5,10 +5,10 @@ ghost use Rattle.core_token.specs.Lexemes.{number_at};
 
 use crate::lexeme::Lexeme;
 use crate::token::{Sort, TokenKind};
-use core_text::bytes::{DECIMAL, digits, front, number_up_to, rest_from};
+use core_text::bytes::{DECIMAL, digits, number_up_to, prefix, rest_from};
 use core_text::fraction::fraction_length;
 
-/// An integer of at most `most` or a float, whose digits stand at the front, behind a sign of so many bytes.
+/// An integer of at most `most` or a float, whose digits stand at the beginning, behind a sign of so many bytes.
 #[tactic(auto, unfolding(crate::specs::Lexemes::number_at))]
 pub fn number_at(sign: usize, most: u64, text: &[u8]) -> Result<Lexeme, TokenKind>
     requires some { 0 < length text.now }
@@ -26,7 +26,7 @@ pub fn number_at(sign: usize, most: u64, text: &[u8]) -> Result<Lexeme, TokenKin
             length: sign + count + fraction,
         });
     }
-    match number_up_to(front(text, count), DECIMAL, most) {
+    match number_up_to(prefix(text, count), DECIMAL, most) {
         Some(_) => Ok(Lexeme {
             sort: Sort::Integer,
             length: sign + count,

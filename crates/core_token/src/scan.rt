@@ -12,7 +12,7 @@ ghost use Rattle.core_token.specs.Reading.{blank_length, refusal, read, Answers,
 
 use crate::lexeme::{Lexeme, lexeme_at};
 use crate::token::{Sort, Token, TokenFault, TokenKind, Tokens};
-use core_text::bytes::{front, is_space, rest_from};
+use core_text::bytes::{is_space, prefix, rest_from};
 use core_text::place::{moved, place_after, start};
 use core_text::utf8::{character_length, ill_formed_from};
 use hipe_terms::Place;
@@ -29,7 +29,7 @@ pub struct Scan {
     pub offset: usize,
 }
 
-// Bytes at the front of a text that were passed, and the place behind them.
+// Bytes at the beginning of a text that were passed, and the place behind them.
 #[derive(Clone, Copy)]
 struct Passed {
     length: usize,
@@ -96,7 +96,7 @@ fn place_behind(at: Place, lexeme: Lexeme, text: &[u8]) -> Place
     ensures columns { result.col ≤ at.col + lexeme.length }
 {
     match lexeme.sort {
-        Sort::Atom | Sort::Character | Sort::Text => place_after(at, front(text, lexeme.length)),
+        Sort::Atom | Sort::Character | Sort::Text => place_after(at, prefix(text, lexeme.length)),
         Sort::Variable | Sort::Integer | Sort::Float | Sort::Word | Sort::Sign => Place {
             line: at.line,
             col: at.col + lexeme.length as u64,
@@ -166,7 +166,7 @@ fn step(scan: &mut Scan, rest: &[u8]) -> Result<usize, TokenFault>
 ///
 /// # Errors
 ///
-/// - `Refused` exactly where the text has a fault, and then with its first one.
+/// - `Refused` if and only if the text has a fault, and then with its first one.
 /// - `Memory` where memory runs out.
 pub fn tokens(alloc: Global, text: &[u8]) -> Result<Tokens, TokenFault>
     requires short { length text.now < 2 ^ 32 }

@@ -2,14 +2,15 @@
 
 ghost use Rattle.std.specs.Prelude.{◌≡◌, [], ◌∷◌, ◌++◌, OnErr, OnOk};
 
+use hipe_base::Memory;
 use hipe_terms::Place;
-use std::alloc::{AllocError, Global};
+use std::alloc::Global;
 use std::marker::Model;
 
 /// What a token is.
 #[derive(Clone, Copy, Debug, PartialEq, Eq)]
 pub enum Sort {
-    /// Characters and escapes in single quotes: at most 255 code points.
+    /// Characters and escapes in single quotes: at most `ATOM_LIMIT` code points.
     Atom,
     /// An upper-case letter or `_`, then letters, digits, `_` and `@`.
     Variable,
@@ -21,7 +22,7 @@ pub enum Sort {
     Character,
     /// Characters and escapes in double quotes.
     Text,
-    /// A word of the language, such as `let`.
+    /// A keyword, such as `let`.
     Word,
     /// A sign, such as `->`.
     Sign,
@@ -66,7 +67,7 @@ impl Tokens {
     }
 
     /// Puts a token at the end. The error is that memory ran out; the list is then as before.
-    pub fn push(&mut self, token: Token) -> Result<(), AllocError>
+    pub fn push(&mut self, token: Token) -> Result<(), Memory>
         ensures ok { OnOk result (self.new ≡ self.old ++ token ∷ []) }
         ensures err { OnErr result (self.new ≡ self.old) }
     {
@@ -87,9 +88,9 @@ impl Tokens {
 pub enum TokenKind {
     /// No token is there.
     Token,
-    /// An integer that isn't from -576,460,752,303,423,488 to 576,460,752,303,423,487.
+    /// An integer that isn't from `LEAST_INTEGER` to `GREATEST_INTEGER`.
     WideInteger,
-    /// An atom of more than 255 code points.
+    /// An atom of more than `ATOM_LIMIT` code points.
     LongAtom,
 }
 
@@ -107,13 +108,13 @@ pub enum TokenFault {
     Memory,
 }
 
-impl From<AllocError> for TokenFault {
+impl From<Memory> for TokenFault {
     ghost use Rattle.core_token.specs.declared.token.TokenFault.TheVariants.{Memory};
     ghost use Rattle.std.specs.Prelude.{◌≡◌};
 
     ghost from_gives = { λ _ fault. fault ≡ Memory };
 
-    fn from(_error: AllocError) -> TokenFault {
+    fn from(_error: Memory) -> TokenFault {
         TokenFault::Memory
     }
 }

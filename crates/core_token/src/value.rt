@@ -4,12 +4,13 @@ ghost use Rattle.std.specs.Prelude.{◌≡◌, ℕ, ◌<◌, ◌≤◌, ◌^◌,
 ghost use Rattle.core_token.specs.Values.{integer_of, character_of, code_points_of};
 
 use crate::lexeme::{FARTHEST_BELOW, GREATEST};
-use core_text::bytes::{DECIMAL, front, number_up_to, rest_from};
+use core_text::bytes::{DECIMAL, number_up_to, prefix, rest_from};
 use core_text::code_point::{code_point_at, values_between};
-use std::alloc::{AllocError, Global};
+use hipe_base::Memory;
+use std::alloc::Global;
 
-/// The number of an integer, from its bytes; `None` where it isn't from -576,460,752,303,423,488 to
-/// 576,460,752,303,423,487, which no token is.
+/// The number of an integer, from its bytes; `None` where it isn't from `LEAST_INTEGER` to
+/// `GREATEST_INTEGER`, which no token is.
 #[tactic(auto, unfolding(crate::specs::Values::integer_of))]
 pub fn integer_of(token: &[u8]) -> Option<i64>
     ensures { result ≡ integer_of token.now }
@@ -44,11 +45,11 @@ pub fn character_of(token: &[u8]) -> Option<u32>
 
 /// The code points of an atom or of a text, from its bytes with the quotes. The error is that memory ran out.
 #[tactic(auto, unfolding(crate::specs::Values::code_points_of))]
-pub fn code_points_of(alloc: Global, token: &[u8]) -> Result<Vec<u32>, AllocError>
+pub fn code_points_of(alloc: Global, token: &[u8]) -> Result<Vec<u32>, Memory>
     requires quotes { 2 ≤ length token.now }
     requires short { length token.now < 2 ^ 32 }
     ensures { IfOk result (λ v. v.items ≡ code_points_of token.now) }
 {
     let rest = rest_from(token, 1);
-    values_between(alloc, front(rest, token.len() - 2))
+    values_between(alloc, prefix(rest, token.len() - 2))
 }

@@ -1,4 +1,8 @@
-// The tests of tokens: tables of texts with their tokens, values and faults. It promises nothing.
+// The tests of tokens: tables of texts with their tokens, values and faults.
+//
+// Promises: nothing.
+//
+// May touch: memory alone.
 //
 // Files:
 //   tables.rt     the tables

@@ -1,4 +1,4 @@
--- Words and bytes have an answer.
+-- Arguments and bytes have an answer.
 use Rattle.std.proofs.Common.{◌≡◌, ◌≢◌, ℕ, ◌<◌, ◌≤◌, ◌⊎◌, inl, inr, true, false, List, [], ◌∷◌, length, Option, Some, None, MatchOption, Result, Ok, Err, refl, arith}
 use Rattle.std.specs.Prelude.{leb}
 use Rattle.std.proofs.lemmas.Bool.Decides.{leb_tells}
@@ -26,11 +26,11 @@ use Rattle.core_reader.specs.Language.{Reads}
 use Rattle.core_reader.specs.Laws.{IsAnswer, IsCallAnswer}
 use Rattle.core_reader.proofs.Answering.{some_answer as some_reading, some_call_answer}
 use Rattle.core_reader.proofs.Unique.{refused_reads_none, refused_reads_no_call}
-use Rattle.eval_source.specs.declared.limits.TheConstants.{TEXT_LIMIT}
-use Rattle.eval_source.specs.declared.stop.Stop.{Stop}
-use Rattle.eval_source.specs.Answers.{Answer, refused, AnswerTo, too_long, not_read, not_good, ended, Expected, bad_words, no_call, of_call}
+use Rattle.hipe_base.specs.declared.limits.TheConstants.{TEXT_LIMIT}
+use Rattle.hipe_stop.specs.declared.stop.Stop.{Stop}
+use Rattle.eval_source.specs.Answers.{Answer, refused, AnswerTo, too_long, not_read, not_good, ended, Expected, bad_arguments, no_call, of_call}
 use Rattle.eval_source.specs.Texts.{Writes, ending_line}
-use Rattle.eval_source.specs.Words.{Command, command_of}
+use Rattle.eval_source.specs.Arguments.{Command, command_of}
 
 -- a run without limits meets none
 plain : (m : Trees.Module) (call : Call) (fuel : ℕ) → IsPlain (source_run m call fuel).ending
@@ -79,12 +79,12 @@ module _ (call : Call) (fuel : ℕ) (bytes : List ℕ) where
     within (inl h) = let r = some_reading bytes in read h.1 r.0 r.1
     within (inr h) = (refused Stop.TooLong, too_long h.1)
 
-pub some : (words : List (List ℕ)) (bytes : List ℕ) → (a : Answer) × Expected words bytes a
-some words bytes = go (command_of words) refl where
-  called : (c : Command) → command_of words ≡ Some c → (r : Result Call Place) → IsCallAnswer c.call r → (a : Answer) × Expected words bytes a
+pub some : (arguments : List (List ℕ)) (bytes : List ℕ) → (a : Answer) × Expected arguments bytes a
+some arguments bytes = go (command_of arguments) refl where
+  called : (c : Command) → command_of arguments ≡ Some c → (r : Result Call Place) → IsCallAnswer c.call r → (a : Answer) × Expected arguments bytes a
   called c is (Ok call) reads = let a = some_answer call c.fuel bytes in (a.0, of_call c call is reads a.1)
   called c is (Err p) at = (refused (Stop.Call p), no_call c p is (refused_reads_no_call c.call p at) at)
 
-  go : (o : Option Command) → command_of words ≡ o → (a : Answer) × Expected words bytes a
-  go None is = (refused Stop.Words, bad_words is)
+  go : (o : Option Command) → command_of arguments ≡ o → (a : Answer) × Expected arguments bytes a
+  go None is = (refused Stop.Arguments, bad_arguments is)
   go (Some c) is = let r = some_call_answer c.call in called c is r.0 r.1

@@ -3,7 +3,7 @@ use Rattle.std.proofs.Common.{◌≡◌, ℕ, ◌+◌, ◌-◌, ◌*◌, ◌^◌
 use Rattle.std.proofs.lemmas.Bool.Decides.{nat_tests}
 use Rattle.std.proofs.lemmas.List.{at_drop_more, drop_all}
 use Rattle.std.specs.Prelude.{if◌then◌else◌, nat_lt}
-use Rattle.eval_source.specs.Words.{with_digits, that_fits, is_digit}
+use Rattle.eval_source.specs.Arguments.{with_digits, that_fits, is_digit}
 
 digit_then : (d : Bool) (o : Option ℕ) (m k : ℕ) → (o ≡ Some m → k ≤ m) → (if d then o else None) ≡ Some m → k ≤ m
 digit_then true o m k h e = h e

@@ -1,5 +1,4 @@
 pub mod Digits
-pub mod Reading
 pub mod Naming
 pub mod Coming
 pub mod Doing

@@ -7,18 +7,16 @@ use Rattle.core_ast.specs.declared.tree.FunDef.{FunDef}
 use Rattle.core_ast.specs.Trees.{definition_of, definitions}
 use Rattle.core_meaning.specs.Scopes.{function_names}
 use Rattle.core_meaning.specs.Meaning as Meant
-use Rattle.core_eval.specs.declared.frame.Ending.{Ending}
-use Rattle.core_eval.specs.declared.frame.Ending.TheVariants as Endings
-use Rattle.core_eval.specs.declared.run.Evaluation.{Evaluation}
-use Rattle.core_eval.specs.Configurations.{ending_in}
-use Rattle.core_eval.specs.Evaluations.{run_in}
-use Rattle.core_values.specs.declared.result.Class.{Class}
-use Rattle.core_values.specs.Results.{class_in}
-use Rattle.core_values.specs.Values.{term_in, terms_in}
+use Rattle.eval_run.specs.declared.frame.Ending.{Ending}
+use Rattle.eval_run.specs.declared.frame.Ending.TheVariants as Endings
+use Rattle.eval_run.specs.declared.run.Evaluation.{Evaluation}
+use Rattle.eval_run.specs.Configurations.{ending_in}
+use Rattle.eval_run.specs.Evaluations.{run_in}
+use Rattle.eval_values.specs.Values.{terms_in}
 use Rattle.core_soundness.specs.Laws.{NeverSticks}
 use Rattle.eval_source.specs.declared.lines.Lines.{Lines}
 use Rattle.eval_source.specs.Texts.{Writes, ending_line}
-use Rattle.value_text.specs.Named.{names_of}
+use Rattle.eval_text.specs.Named.{names_of}
 
 pub same_names : (defs : List FunDef) → map (λ f. (f.name, f.arity)) (function_names (definitions (map definition_of defs))) ≡ names_of defs
 same_names [] = refl
@@ -29,10 +27,7 @@ ending_has_line : (names : Names) (e : Ending) → ending_in e ≢ Meant.Ending.
 ending_has_line names (Endings.Values []) n one = absurd (let h : 0 ≡ 1 = one [] refl in omega (arith, h))
 ending_has_line names (Endings.Values (t ∷ [])) n one = refl
 ending_has_line names (Endings.Values (t ∷ u ∷ ts)) n one = absurd (let h : length (terms_in (t ∷ u ∷ ts)) ≡ 1 = one (terms_in (t ∷ u ∷ ts)) refl in omega (arith, h))
-ending_has_line names (Endings.Raised class reason) n one = class_has_line class
-  where
-    class_has_line : (c : Class) → IsSome (ending_line names (Meant.Ending.raised (class_in c) (term_in reason)))
-    class_has_line c = refl
+ending_has_line names (Endings.Raised class reason) n one = refl
 ending_has_line names Endings.FuelSpent n one = refl
 ending_has_line names Endings.Stuck n one = absurd (n refl)
 

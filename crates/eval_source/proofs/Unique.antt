@@ -1,4 +1,4 @@
--- Words and bytes have one answer alone.
+-- Arguments and bytes have one answer alone.
 use Rattle.std.proofs.Common.{◌≡◌, ℕ, ◌<◌, ◌≤◌, List, length, Option, None, Some, refl, sym, ap, ◌∙◌, subst, arith}
 use Rattle.hipe_terms.specs.declared.constant.Call.{Call}
 use Rattle.hipe_terms.specs.declared.place.Place.{Place}
@@ -12,13 +12,13 @@ use Rattle.core_meaning.specs.Meaning.{Run}
 use Rattle.core_reader.specs.declared.refusal.ReadRefusal.{ReadRefusal}
 use Rattle.core_reader.specs.Language.{Reads, ReadsNone, IsRefusedAs, ReadsCall, IsNoCall}
 use Rattle.core_reader.proofs.Unique.{one_reading, one_refusal, one_reading_of_call, one_place_of_no_call}
-use Rattle.eval_source.specs.declared.limits.TheConstants.{TEXT_LIMIT}
-use Rattle.eval_source.specs.declared.stop.Reason.{Reason}
-use Rattle.eval_source.specs.declared.stop.Stop.{Stop}
-use Rattle.eval_source.specs.Answers.{Answer, refused, ran, AnswerTo, too_long, not_read, not_good, ended, Expected, bad_words, no_call, of_call, RunWrites}
-use Rattle.eval_source.specs.Stops.{stop_of_reading}
+use Rattle.hipe_base.specs.declared.limits.TheConstants.{TEXT_LIMIT}
+use Rattle.hipe_stop.specs.declared.stop.Reason.{Reason}
+use Rattle.hipe_stop.specs.declared.stop.Stop.{Stop}
+use Rattle.eval_source.specs.Answers.{Answer, refused, ran, AnswerTo, too_long, not_read, not_good, ended, Expected, bad_arguments, no_call, of_call, RunWrites}
+use Rattle.hipe_stop.specs.Stops.{stop_of_reading}
 use Rattle.eval_source.specs.Texts.{Writes, run_text}
-use Rattle.eval_source.specs.Words.{Command, command_of}
+use Rattle.eval_source.specs.Arguments.{Command, command_of}
 
 -- what a run writes is one text with one status
 module _ {names : Names} {fuel : ℕ} {run : Run} {t u : List ℕ} {m n : ℕ} where
@@ -75,24 +75,24 @@ module _ (call : Call) (fuel : ℕ) (bytes : List ℕ) where
   answers_agree _ b (not_good m rule p short reads first) x = bad_one m rule p b short reads first x
   answers_agree _ b (ended m text status short reads good writes) x = good_one m text status b short reads good writes x
 
--- the words name one command at most
-same_command : (words : List (List ℕ)) (c d : Command) → command_of words ≡ Some c → command_of words ≡ Some d → c ≡ d
-same_command words c d h g = let both : Some c ≡ Some d = sym h ∙ g in cc
+-- the arguments name one command at most
+same_command : (arguments : List (List ℕ)) (c d : Command) → command_of arguments ≡ Some c → command_of arguments ≡ Some d → c ≡ d
+same_command arguments c d h g = let both : Some c ≡ Some d = sym h ∙ g in cc
 
-none_or_some : {A : Type 0} (words : List (List ℕ)) (c : Command) → command_of words ≡ None → command_of words ≡ Some c → A
-none_or_some words c h g = absurd (let both : ◌≡◌ {A = Option Command} None (Some c) = sym h ∙ g in cc)
+none_or_some : {A : Type 0} (arguments : List (List ℕ)) (c : Command) → command_of arguments ≡ None → command_of arguments ≡ Some c → A
+none_or_some arguments c h g = absurd (let both : ◌≡◌ {A = Option Command} None (Some c) = sym h ∙ g in cc)
 
-pub one : (words : List (List ℕ)) (bytes : List ℕ) (a b : Answer) → Expected words bytes a → Expected words bytes b → a ≡ b
-one words bytes _ _ (bad_words bad) (bad_words bad2) = refl
-one words bytes _ _ (bad_words bad) (no_call c p is none at) = none_or_some words c bad is
-one words bytes _ b (bad_words bad) (of_call c call is reads x) = none_or_some words c bad is
-one words bytes _ _ (no_call c p is none at) (bad_words bad) = none_or_some words c bad is
-one words bytes _ _ (no_call c p is none at) (no_call d q is2 none2 at2) =
-    ap (λ x. refused (Stop.Call x)) (one_place_of_no_call c.call p q at (subst (λ k. IsNoCall k.call q) (same_command words d c is2 is) at2))
-one words bytes _ b (no_call c p is none at) (of_call d call is2 reads x) = absurd (none call (subst (λ k. ReadsCall k.call call) (same_command words d c is2 is) reads))
-one words bytes a _ (of_call c call is reads x) (bad_words bad) = none_or_some words c bad is
-one words bytes a _ (of_call c call is reads x) (no_call d q is2 none at) = absurd (none call (subst (λ k. ReadsCall k.call call) (same_command words c d is is2) reads))
-one words bytes a b (of_call c call is reads x) (of_call d call2 is2 reads2 y) =
-    let same_c : d ≡ c = same_command words d c is2 is in
+pub one : (arguments : List (List ℕ)) (bytes : List ℕ) (a b : Answer) → Expected arguments bytes a → Expected arguments bytes b → a ≡ b
+one arguments bytes _ _ (bad_arguments bad) (bad_arguments bad2) = refl
+one arguments bytes _ _ (bad_arguments bad) (no_call c p is none at) = none_or_some arguments c bad is
+one arguments bytes _ b (bad_arguments bad) (of_call c call is reads x) = none_or_some arguments c bad is
+one arguments bytes _ _ (no_call c p is none at) (bad_arguments bad) = none_or_some arguments c bad is
+one arguments bytes _ _ (no_call c p is none at) (no_call d q is2 none2 at2) =
+    ap (λ x. refused (Stop.Call x)) (one_place_of_no_call c.call p q at (subst (λ k. IsNoCall k.call q) (same_command arguments d c is2 is) at2))
+one arguments bytes _ b (no_call c p is none at) (of_call d call is2 reads x) = absurd (none call (subst (λ k. ReadsCall k.call call) (same_command arguments d c is2 is) reads))
+one arguments bytes a _ (of_call c call is reads x) (bad_arguments bad) = none_or_some arguments c bad is
+one arguments bytes a _ (of_call c call is reads x) (no_call d q is2 none at) = absurd (none call (subst (λ k. ReadsCall k.call call) (same_command arguments c d is is2) reads))
+one arguments bytes a b (of_call c call is reads x) (of_call d call2 is2 reads2 y) =
+    let same_c : d ≡ c = same_command arguments d c is2 is in
     let same_call : call2 ≡ call = one_reading_of_call c.call call2 call (subst (λ k. ReadsCall k.call call2) same_c reads2) reads in
     answers_agree call c.fuel bytes a b x (subst (λ k. AnswerTo k c.fuel bytes b) same_call (subst (λ k. AnswerTo call2 k.fuel bytes b) same_c y))

@@ -12,12 +12,12 @@ use Rattle.core_meaning.specs.Procedures.{program_of}
 use Rattle.core_meaning.specs.Source.{source_run}
 use Rattle.core_reader.specs.declared.refusal.ReadRefusal.{ReadRefusal}
 use Rattle.core_reader.specs.Language.{Reads, ReadsNone, IsRefusedAs, ReadsCall, IsNoCall}
-use Rattle.eval_source.specs.declared.limits.TheConstants.{TEXT_LIMIT}
-use Rattle.eval_source.specs.declared.stop.Reason.{Reason}
-use Rattle.eval_source.specs.declared.stop.Stop.{Stop}
-use Rattle.eval_source.specs.Stops.{status_of, line_of, stop_of_reading}
+use Rattle.hipe_base.specs.declared.limits.TheConstants.{TEXT_LIMIT}
+use Rattle.hipe_stop.specs.declared.stop.Reason.{Reason}
+use Rattle.hipe_stop.specs.declared.stop.Stop.{Stop}
+use Rattle.hipe_stop.specs.Stops.{status_of, line_of, stop_of_reading}
 use Rattle.eval_source.specs.Texts.{Writes}
-use Rattle.eval_source.specs.Words.{Command, command_of}
+use Rattle.eval_source.specs.Arguments.{Command, command_of}
 
 -- a status, and the texts on out and err
 pub record Answer : Type 0 where
@@ -44,13 +44,15 @@ pub data AnswerTo (call : Call) (fuel : ℕ) (bytes : List ℕ) : Answer → Typ
   ended : (m : Module) (text : List ℕ) (status : ℕ) → length bytes ≤ TEXT_LIMIT → Reads bytes m → IsGood (module_of m) → RunWrites (module_of m) call fuel text status
       → AnswerTo call fuel bytes (ran status text)
 
--- the answer to these words and an input of these bytes
-pub data Expected (words : List (List ℕ)) (bytes : List ℕ) : Answer → Type 0 where
-  bad_words : command_of words ≡ None → Expected words bytes (refused Stop.Words)
-  no_call : (c : Command) (p : Place) → command_of words ≡ Some c → ((call : Call) → ¬ ReadsCall c.call call) → IsNoCall c.call p → Expected words bytes (refused (Stop.Call p))
-  of_call : {answer : Answer} (c : Command) (call : Call) → command_of words ≡ Some c → ReadsCall c.call call → AnswerTo call c.fuel bytes answer → Expected words bytes answer
+-- the answer to these arguments and an input of these bytes
+pub data Expected (arguments : List (List ℕ)) (bytes : List ℕ) : Answer → Type 0 where
+  bad_arguments : command_of arguments ≡ None → Expected arguments bytes (refused Stop.Arguments)
+  no_call : (c : Command) (p : Place) → command_of arguments ≡ Some c → ((call : Call) → ¬ ReadsCall c.call call) → IsNoCall c.call p
+      → Expected arguments bytes (refused (Stop.Call p))
+  of_call : {answer : Answer} (c : Command) (call : Call) → command_of arguments ≡ Some c → ReadsCall c.call call
+      → AnswerTo call c.fuel bytes answer → Expected arguments bytes answer
 
--- words and bytes have an answer, and one alone
+-- arguments and bytes have an answer, and one alone
 pub record HaveOneAnswer : Type 0 where
-  pub some : (words : List (List ℕ)) (bytes : List ℕ) → (a : Answer) × Expected words bytes a
-  pub one : (words : List (List ℕ)) (bytes : List ℕ) (a b : Answer) → Expected words bytes a → Expected words bytes b → a ≡ b
+  pub some : (arguments : List (List ℕ)) (bytes : List ℕ) → (a : Answer) × Expected arguments bytes a
+  pub one : (arguments : List (List ℕ)) (bytes : List ℕ) (a b : Answer) → Expected arguments bytes a → Expected arguments bytes b → a ≡ b

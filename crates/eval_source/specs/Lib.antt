@@ -1,8 +1,6 @@
 -- What contracts say of the program.
-pub mod Words
+pub mod Arguments
 pub mod Commands
-pub mod Stops
 pub mod Texts
 pub mod Answers
 pub mod Outcome
-pub mod Refusing

@@ -1,7 +1,7 @@
-// What the words ask for.
+// What the arguments ask for.
 ghost use Rattle.std.specs.Prelude.{◌<◌, ◌^◌, length};
 
-/// What the words ask for: the run of a call, by its text, with so much fuel.
+/// What the arguments ask for: the run of a call, by its text, with so much fuel.
 #[derive(Clone, Copy)]
 pub struct Command<'a> {
     pub call: &'a str,

@@ -1,19 +1,19 @@
 // What a run writes on out.
 ghost use Rattle.std.specs.Prelude.{◌≡◌, ◌++◌, ◌-◌, IsSome, IfSome, IfOk, OnOk, string_bytes, codes};
 ghost use Rattle.hipe_terms.specs.Shown.{shown};
-ghost use Rattle.core_eval.specs.Configurations.{ending_in};
-ghost use Rattle.core_eval.specs.Evaluations.{run_in};
-ghost use Rattle.core_meaning.specs.Output.{new_line, printed_lines, class_word};
-ghost use Rattle.core_values.specs.Results.{class_in};
-ghost use Rattle.core_values.specs.Values.{term_in, terms_in};
+ghost use Rattle.eval_run.specs.Configurations.{ending_in};
+ghost use Rattle.eval_run.specs.Evaluations.{run_in};
+ghost use Rattle.core_meaning.specs.Output.{new_line, printed_lines};
+ghost use Rattle.eval_values.specs.Values.{term_in, terms_in};
 ghost use Rattle.eval_source.specs.Texts.{Writes, ending_line, ending_status, counts_lines};
-ghost use Rattle.value_text.specs.Named.{names_of};
+ghost use Rattle.eval_text.specs.Named.{names_of};
 
 use core_ast::FunDef;
-use core_eval::{Counts, Ending, Evaluation};
-use core_values::{Class, Value};
-use std::alloc::{AllocError, Global};
-use value_text::show_value;
+use eval_run::{Counts, Ending, Evaluation};
+use eval_text::show_value;
+use eval_values::Value;
+use hipe_base::Memory;
+use std::alloc::Global;
 
 /// What a run writes on out, and its exit status.
 #[derive(Drop)]
@@ -29,7 +29,7 @@ pub fn lines_of(
     defs: &[FunDef],
     fuel: u64,
     run: &Evaluation<'_>,
-) -> Result<Lines, AllocError>
+) -> Result<Lines, Memory>
     requires { IsSome (ending_line (names_of defs.now) (run_in run.now).ending) }
     ensures { IfOk result (λ lines. Writes (names_of defs.now) fuel (run_in run.now) (string_bytes lines.text) lines.status) }
 {
@@ -46,7 +46,7 @@ fn show_printed(
     defs: &[FunDef],
     printed: &[Value<'_>],
     text: &mut String,
-) -> Result<(), AllocError>
+) -> Result<(), Memory>
     ensures { OnOk result (string_bytes text.new ≡ string_bytes text.old ++ printed_lines (names_of defs.now) (terms_in printed.now)) }
 {
     for value in printed {
@@ -61,7 +61,7 @@ fn show_line(
     defs: &[FunDef],
     value: Value<'_>,
     text: &mut String,
-) -> Result<(), AllocError>
+) -> Result<(), Memory>
     ensures { OnOk result (string_bytes text.new ≡ string_bytes text.old ++ (shown (names_of defs.now) (term_in value.entry) ++ new_line)) }
 {
     show_value(alloc, defs, value, text)?;
@@ -74,7 +74,7 @@ fn show_ending(
     defs: &[FunDef],
     ending: &Ending<'_>,
     text: &mut String,
-) -> Result<u8, AllocError>
+) -> Result<u8, Memory>
     requires { IsSome (ending_line (names_of defs.now) (ending_in ending.now)) }
     ensures line { IfOk result (λ _. IfSome (ending_line (names_of defs.now) (ending_in ending.now)) (λ line. string_bytes text.new ≡ string_bytes text.old ++ line)) }
     ensures status { IfOk result (λ status. status ≡ ending_status (ending_in ending.now)) }
@@ -89,7 +89,8 @@ fn show_ending(
             _ => unreachable!(),
         },
         Ending::Raised(class, reason) => {
-            text.push_str(class_word(*class))?;
+            text.push_str(class.name())?;
+            text.push_str(" ")?;
             show_line(alloc, defs, *reason, text)?;
             Ok(1)
         }
@@ -101,24 +102,8 @@ fn show_ending(
     }
 }
 
-// The class at the front of a line.
-fn class_word(class: Class) -> &'static str
-    ensures { result.now ≡ class_word (class_in class) }
-{
-    match class {
-        Class::Error => "error ",
-        Class::Exit => "exit ",
-        Class::Throw => "throw ",
-    }
-}
-
 // Appends what a run with so much fuel counted.
-fn show_counts(
-    alloc: Global,
-    fuel: u64,
-    counts: Counts,
-    text: &mut String,
-) -> Result<(), AllocError>
+fn show_counts(alloc: Global, fuel: u64, counts: Counts, text: &mut String) -> Result<(), Memory>
     ensures { OnOk result (string_bytes text.new ≡ string_bytes text.old ++ counts_lines counts.words counts.claim (fuel - counts.fuel)) }
 {
     let Counts {

@@ -14,13 +14,14 @@ use Rattle.hipe_terms.specs.declared.constant.Constant.TheOpen.{Constant-F}
 use Rattle.hipe_terms.specs.declared.constant.Constant.TheFolds.{fold_out-Constant, fold-Constant, map-Constant}
 use Rattle.hipe_terms.specs.declared.constant.Constant.TheViews.{the_lemmas}
 use Rattle.hipe_terms.proofs.Levels.{words_is}
-use Rattle.heap_terms.specs.Building.{Built, Builds, same_atom, number_of, all_built, cell_built, cells_built, tuple_built, list_built, built_at, built}
+use Rattle.heap_terms.specs.declared.tags.TheConstants.{NIL_WORD}
+use Rattle.heap_terms.specs.Building.{Built, Builds, same_atom, number_of, atom_word, all_built, cell_built, cells_built, tuple_built, list_built, built_at, built}
 use Rattle.heap_terms.specs.Integers.{word_of}
 
 abbrev pub level_built : Constant-F Constant → Builds
 level_built (Constant-F.Int n) begin atoms used = (word_of n, used)
-level_built (Constant-F.Atom a) begin atoms used = (64 * number_of atoms a + 11, used)
-level_built Constant-F.Nil begin atoms used = (59, used)
+level_built (Constant-F.Atom a) begin atoms used = (atom_word (number_of atoms a), used)
+level_built Constant-F.Nil begin atoms used = (NIL_WORD, used)
 level_built (Constant-F.List cs c) begin atoms used = list_built begin atoms (all_built (map built cs) begin atoms used) (built c)
 level_built (Constant-F.Tuple cs) begin atoms used = tuple_built begin (all_built (map built cs) begin atoms used)
 
@@ -36,25 +37,25 @@ pub built_is : (c : Constant) (begin : ℕ) (atoms : List (List ℕ)) (used : Li
 unfolding built
 built_is c begin atoms used = ap (λ b. b begin atoms used) (fold_out-Constant Builds built_at c ∙ built_level (out-Constant c))
 
--- ---- what was there stays in front
+-- ---- what was there stays a prefix
 
-pub front_same : (xs : List ℕ) → take (length xs) xs ≡ xs
-front_same [] = refl
-front_same (x ∷ xs) = ap (λ ys. x ∷ ys) (front_same xs)
+pub prefix_same : (xs : List ℕ) → take (length xs) xs ≡ xs
+prefix_same [] = refl
+prefix_same (x ∷ xs) = ap (λ ys. x ∷ ys) (prefix_same xs)
 
-pub front_more : (xs ys : List ℕ) → take (length xs) (xs ++ ys) ≡ xs
-front_more [] ys = refl
-front_more (x ∷ xs) ys = ap (λ zs. x ∷ zs) (front_more xs ys)
+pub prefix_more : (xs ys : List ℕ) → take (length xs) (xs ++ ys) ≡ xs
+prefix_more [] ys = refl
+prefix_more (x ∷ xs) ys = ap (λ zs. x ∷ zs) (prefix_more xs ys)
 
-pub front_then : (xs ys zs : List ℕ) → take (length xs) ys ≡ xs → take (length ys) zs ≡ ys → take (length xs) zs ≡ xs
-front_then [] ys zs e f = refl
-front_then (x ∷ xs) [] zs e f = absurd (cc)
-front_then (x ∷ xs) (y ∷ ys) [] e f = absurd (cc)
-front_then (x ∷ xs) (y ∷ ys) (z ∷ zs) e f = ap₂ (λ w ws. w ∷ ws) (cc) (front_then xs ys zs (cc) (cc))
+pub prefix_then : (xs ys zs : List ℕ) → take (length xs) ys ≡ xs → take (length ys) zs ≡ ys → take (length xs) zs ≡ xs
+prefix_then [] ys zs e f = refl
+prefix_then (x ∷ xs) [] zs e f = absurd (cc)
+prefix_then (x ∷ xs) (y ∷ ys) [] e f = absurd (cc)
+prefix_then (x ∷ xs) (y ∷ ys) (z ∷ zs) e f = ap₂ (λ w ws. w ∷ ws) (cc) (prefix_then xs ys zs (cc) (cc))
 
-pub ruleset fronts = (front_same, front_more, front_then)
+pub ruleset prefixes = (prefix_same, prefix_more, prefix_then)
 
-pub ruleset building = (the_lemmas, words_is, built_is, front_same, front_more, front_then)
+pub ruleset building = (the_lemmas, words_is, built_is, prefix_same, prefix_more, prefix_then)
 
 -- ---- integers
 
@@ -74,7 +75,7 @@ as_passed n e = ap is_in_range (to_z-of_z w64 n (fits_word n e)) ∙ e
 pub cells_from : (begin : ℕ) (ws : List ℕ) (tail : Built) (i w : ℕ) → drop i ws ≡ w ∷ drop (suc i) ws → cells_built begin (drop i ws) tail ≡ cell_built begin w (cells_built begin (drop (suc i) ws) tail)
 cells_from begin ws tail i w e = ap (λ xs. cells_built begin xs tail) e
 
-pub ruleset cells = (cells_from, front_same, front_more, front_then)
+pub ruleset cells = (cells_from, prefix_same, prefix_more, prefix_then)
 
 -- ---- atoms that are compared by their order
 

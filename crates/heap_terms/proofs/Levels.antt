@@ -3,6 +3,7 @@ use Rattle.std.proofs.Common.{◌≡◌, ℕ, zero, suc, ◌+◌, ◌-◌, ◌/�
 use Rattle.std.proofs.lemmas.Bool.{cases_lt}
 use Rattle.std.proofs.lemmas.Option.{slice_get_past}
 use Rattle.hipe_terms.specs.Terms.{Term}
+use Rattle.heap_terms.specs.declared.tags.TheConstants.{INTEGER_TAG, INTEGER_SCALE, ATOM_TAG, ATOM_SCALE, NIL_WORD, CONS_TAG, OBJECT_TAG, POINTER_SCALE, TUPLE_HEADER, FUN_HEADER, HEADER_SCALE}
 use Rattle.heap_terms.specs.Shapes.{Symbols, Reference, Shape, Integer, Atom, Nil, Cons, Tuple, Fun, parts, shape_at, option_map, folded, made_of, lower, words_from, atom_shape, cons_shape, tuple_shape, fun_shape, object_shape, cons_at, object_at}
 use Rattle.heap_terms.specs.Parts.{parts_in, size_step, size_below}
 use Rattle.heap_terms.specs.Terms.{term_step, term_below}
@@ -80,14 +81,14 @@ fun_falls : (limit functions below : ℕ) (words : Option (List ℕ)) → below 
 fun_falls limit functions below None h = tt
 fun_falls limit functions below (Some []) h = tt
 fun_falls limit functions below (Some (number ∷ ws)) h =
-    falls_if limit (nat_eq (number % 16) 15 && nat_lt (number / 16) functions) (Some (Fun (number / 16) (parts below ws))) None (parts_below limit below ws h) tt
+    falls_if limit (nat_eq (number % INTEGER_SCALE) INTEGER_TAG && nat_lt (number / INTEGER_SCALE) functions) (Some (Fun (number / INTEGER_SCALE) (parts below ws))) None (parts_below limit below ws h) tt
 
 header_falls : (limit : ℕ) (symbols : Symbols) (heap : List ℕ) (i : ℕ) (header : Option ℕ) → i < limit → Falls limit (object_shape symbols heap i header)
 header_falls limit symbols heap i None h = tt
 header_falls limit symbols heap i (Some header) h =
-    falls_if limit (nat_eq (header % 64) 0) _ _
-    (tuple_falls limit i (words_from heap (suc i) (header / 64)) h)
-    (falls_if limit (nat_eq (header % 64) 20) _ _ (fun_falls limit symbols.functions i (words_from heap (suc i) (suc (header / 64))) h) tt)
+    falls_if limit (nat_eq (header % HEADER_SCALE) TUPLE_HEADER) _ _
+    (tuple_falls limit i (words_from heap (suc i) (header / HEADER_SCALE)) h)
+    (falls_if limit (nat_eq (header % HEADER_SCALE) FUN_HEADER) _ _ (fun_falls limit symbols.functions i (words_from heap (suc i) (suc (header / HEADER_SCALE))) h) tt)
 
 cons_at_falls : (limit : ℕ) (heap : List ℕ) (i : Option ℕ) → Lower limit i → Falls limit (cons_at heap i)
 cons_at_falls limit heap None h = tt
@@ -103,11 +104,11 @@ lower_is heap below address = grind (arith)
 pub shape_falls : (symbols : Symbols) (heap : List ℕ) (at : Reference) → Falls at.below (shape_at symbols heap at)
 unfolding shape_at
 shape_falls symbols heap at =
-    falls_if at.below (nat_eq (at.word % 16) 15) _ _ tt
-    (falls_if at.below (nat_eq (at.word % 64) 11) _ _ (atom_falls at.below (slice_get symbols.atoms (at.word / 64)))
-    (falls_if at.below (nat_eq at.word 59) _ _ tt
-    (falls_if at.below (nat_eq (at.word % 8) 1) _ _ (cons_at_falls at.below heap (lower heap at.below (at.word - 1)) (lower_is heap at.below (at.word - 1)))
-    (falls_if at.below (nat_eq (at.word % 8) 2) _ _ (object_at_falls at.below symbols heap (lower heap at.below (at.word - 2)) (lower_is heap at.below (at.word - 2))) tt))))
+    falls_if at.below (nat_eq (at.word % INTEGER_SCALE) INTEGER_TAG) _ _ tt
+    (falls_if at.below (nat_eq (at.word % ATOM_SCALE) ATOM_TAG) _ _ (atom_falls at.below (slice_get symbols.atoms (at.word / ATOM_SCALE)))
+    (falls_if at.below (nat_eq at.word NIL_WORD) _ _ tt
+    (falls_if at.below (nat_eq (at.word % POINTER_SCALE) CONS_TAG) _ _ (cons_at_falls at.below heap (lower heap at.below (at.word - CONS_TAG)) (lower_is heap at.below (at.word - CONS_TAG)))
+    (falls_if at.below (nat_eq (at.word % POINTER_SCALE) OBJECT_TAG) _ _ (object_at_falls at.below symbols heap (lower heap at.below (at.word - OBJECT_TAG)) (lower_is heap at.below (at.word - OBJECT_TAG))) tt))))
 
 no_words : (heap : List ℕ) (i n : ℕ) → length heap < i + n → words_from heap i n ≡ None
 no_words heap i n h = grind (arith)
@@ -129,11 +130,11 @@ object_in_heap symbols heap (Some i) =
 pub shape_in_heap : (symbols : Symbols) (heap : List ℕ) (at : Reference) → Falls (length heap) (shape_at symbols heap at)
 unfolding shape_at
 shape_in_heap symbols heap at =
-    falls_if (length heap) (nat_eq (at.word % 16) 15) _ _ tt
-    (falls_if (length heap) (nat_eq (at.word % 64) 11) _ _ (atom_falls (length heap) (slice_get symbols.atoms (at.word / 64)))
-    (falls_if (length heap) (nat_eq at.word 59) _ _ tt
-    (falls_if (length heap) (nat_eq (at.word % 8) 1) _ _ (cons_in_heap heap (lower heap at.below (at.word - 1)))
-    (falls_if (length heap) (nat_eq (at.word % 8) 2) _ _ (object_in_heap symbols heap (lower heap at.below (at.word - 2))) tt))))
+    falls_if (length heap) (nat_eq (at.word % INTEGER_SCALE) INTEGER_TAG) _ _ tt
+    (falls_if (length heap) (nat_eq (at.word % ATOM_SCALE) ATOM_TAG) _ _ (atom_falls (length heap) (slice_get symbols.atoms (at.word / ATOM_SCALE)))
+    (falls_if (length heap) (nat_eq at.word NIL_WORD) _ _ tt
+    (falls_if (length heap) (nat_eq (at.word % POINTER_SCALE) CONS_TAG) _ _ (cons_in_heap heap (lower heap at.below (at.word - CONS_TAG)))
+    (falls_if (length heap) (nat_eq (at.word % POINTER_SCALE) OBJECT_TAG) _ _ (object_in_heap symbols heap (lower heap at.below (at.word - OBJECT_TAG))) tt))))
 
 -- ---- the equation by which all else goes
 

@@ -1,5 +1,5 @@
 -- Texts in pieces.
-use Rattle.std.proofs.Common.{◌≡◌, ℕ, ℤ, ◌+◌, true, false, List, [], ◌∷◌, ◌++◌, length, Option, Some, None, codes, refl, sym, ap, ◌∙◌, append_assoc, append-nil, add_assoc, arith}
+use Rattle.std.proofs.Common.{◌≡◌, ◌<◌, ℕ, ℤ, ◌+◌, true, false, List, [], ◌∷◌, ◌++◌, length, Option, Some, None, codes, refl, sym, ap, ◌∙◌, append_assoc, append-nil, add_assoc, arith}
 use Rattle.hipe_terms.specs.Terms.{Term, integer, atom, tuple, Terms}
 use Rattle.hipe_terms.specs.Shown.{Names, fun_text, shown, shown_tail, shown_all, shown_more}
 use Rattle.heap_terms.specs.declared.piece.Piece.{Piece}
@@ -132,6 +132,13 @@ pub empty_more : (symbols : Symbols) (heap : List ℕ) (names : Names) (below : 
 empty_more symbols heap names below [] e = refl
 empty_more symbols heap names below (w ∷ ws) e = absurd (omega arith)
 
+pub more_elements : (symbols : Symbols) (heap : List ℕ) (names : Names) (below : ℕ) (ws : List ℕ) → 0 < length ws
+    → more_text names (terms_below symbols heap below ws) ≡ followed_by (Some (codes ",")) (all_text names (terms_below symbols heap below ws))
+more_elements symbols heap names below [] h = absurd (omega arith)
+more_elements symbols heap names below (w ∷ ws) h =
+    let t : Option Term = term_below symbols heap (record { below = below; word = w }) in
+    next_text names t (terms_below symbols heap below ws) ∙ ap (followed_by (Some (codes ","))) (sym (first_text names t (terms_below symbols heap below ws)))
+
 -- ---- a whole text
 
 pub whole_text : (names : Names) (before after : List ℕ) (t : Option Term) → followed_by (Some after) (Some []) ≡ followed_by (Some before) (text_of names t) → HasShown names before t true after
@@ -144,4 +151,4 @@ unfolding followed_by
 not_a_term names before after (Some t) e = cc
 not_a_term names before after None e = refl
 
-pub ruleset pieces = (term_is, size_is, last_pushed, size_pushed, no_text, no_text_behind, then_nothing, after_nothing, in_order, appended, list_text, list_rest, tuple_text, tuple_rest, fun_rest, fun_shown, no_fun, first_text, next_text, integer_bar, atom_bar, empty_text, empty_more)
+pub ruleset pieces = (term_is, size_is, last_pushed, size_pushed, no_text, no_text_behind, then_nothing, after_nothing, in_order, appended, list_text, list_rest, tuple_text, tuple_rest, fun_rest, fun_shown, no_fun, first_text, next_text, integer_bar, atom_bar, empty_text, empty_more, more_elements)

@@ -1,5 +1,5 @@
 -- What of a term is still to be followed, the next of it last: whether it stands for terms, and how much it is.
-use Rattle.std.specs.Prelude.{ℕ, ◌+◌, Bool, true, false, ◌&&◌, List, [], ◌∷◌, map, Option, Some, None}
+use Rattle.std.specs.Prelude.{◌≡◌, ℕ, ◌+◌, ◌<◌, ◌≤◌, Bool, true, false, ◌&&◌, List, [], ◌∷◌, map, Option, Some, None}
 use Rattle.hipe_terms.specs.Terms.{Terms}
 use Rattle.heap_terms.specs.declared.follow.Pending.{Pending}
 use Rattle.heap_terms.specs.declared.follow.Pending.TheVariants as pendings
@@ -38,3 +38,15 @@ pending_size symbols heap (pendings.Each below words) = words_size symbols heap 
 abbrev pub size_last : Symbols → List ℕ → List Pending → ℕ
 size_last symbols heap [] = 0
 size_last symbols heap (p ∷ ps) = size_last symbols heap ps + pending_size symbols heap p
+
+-- a word has a shape, and what is left stands for terms, exactly where what comes first and what was left before do
+abbrev pub StandsOn : Symbols → List ℕ → Bool → List Pending → Bool → List Pending → Type 0
+StandsOn symbols heap shaped after first before = (shaped && stand_last symbols heap after) ≡ (first && stand_last symbols heap before)
+
+-- what is left is less than this much and what was left before
+abbrev pub IsLess : Symbols → List ℕ → List Pending → ℕ → List Pending → Type 0
+IsLess symbols heap after first before = size_last symbols heap after < first + size_last symbols heap before
+
+-- what is left is at most this much and what was left before
+abbrev pub IsAtMost : Symbols → List ℕ → List Pending → ℕ → List Pending → Type 0
+IsAtMost symbols heap after first before = size_last symbols heap after ≤ first + size_last symbols heap before

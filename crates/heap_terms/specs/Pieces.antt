@@ -1,5 +1,5 @@
 -- The text of a term in pieces that are still to be written, the first of them last: the text, if each is a term's, and how much it is.
-use Rattle.std.specs.Prelude.{◌≡◌, ℕ, ◌+◌, Bool, if◌then◌else◌, List, [], ◌∷◌, ◌++◌, Option, Some, None, codes}
+use Rattle.std.specs.Prelude.{◌≡◌, ℕ, ◌+◌, ◌<◌, Bool, if◌then◌else◌, List, [], ◌∷◌, ◌++◌, Option, Some, None, codes}
 use Rattle.hipe_terms.specs.Terms.{Term, Terms}
 use Rattle.hipe_terms.specs.Shown.{Names, shown, shown_tail, shown_all, shown_more}
 use Rattle.heap_terms.specs.declared.piece.Piece.{Piece}
@@ -70,3 +70,11 @@ piece_size symbols heap pieces.TupleEnd = 1
 abbrev pub size_last : Symbols → List ℕ → List Piece → ℕ
 size_last symbols heap [] = 0
 size_last symbols heap (p ∷ ps) = size_last symbols heap ps + piece_size symbols heap p
+
+-- what was written is followed by what is still to be written: a text, and what was still to be written before
+abbrev pub WritesFirst : Symbols → List ℕ → Bool → List ℕ → List Piece → List ℕ → Text → List Piece → Type 0
+WritesFirst symbols heap found written after before first rest = Writes symbols heap found written after before (followed_by first (text_last symbols heap rest))
+
+-- what is left is less than this much and what was left before
+abbrev pub IsLess : Symbols → List ℕ → List Piece → ℕ → List Piece → Type 0
+IsLess symbols heap after first before = size_last symbols heap after < first + size_last symbols heap before

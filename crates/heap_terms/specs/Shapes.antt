@@ -2,6 +2,7 @@
 use Rattle.std.specs.Prelude.{ℕ, zero, suc, ◌+◌, ◌-◌, ◌*◌, ◌/◌, ◌%◌, ℤ, List, [], ◌∷◌, map, length, take, drop, slice_get, Option, Some, None, ◌&&◌, nat_eq, nat_le, nat_lt, if◌then◌else◌}
 use Rattle.region_memory.specs.declared.layout.TheConstants.{HEAP_END}
 use Rattle.hipe_terms.specs.Shown.{Names}
+use Rattle.heap_terms.specs.declared.tags.TheConstants.{INTEGER_TAG, INTEGER_SCALE, ATOM_TAG, ATOM_SCALE, NIL_WORD, CONS_TAG, OBJECT_TAG, POINTER_SCALE, TUPLE_HEADER, FUN_HEADER, HEADER_SCALE}
 use Rattle.heap_terms.specs.Integers.{integer_in}
 
 -- what is known of a program where its words are read: its atoms by number, the names of its definitions, and how many functions it has
@@ -53,15 +54,15 @@ tuple_shape below (Some words) = Some (Tuple (parts below words))
 -- the first word of a fun behind its header is the integer of its function's number
 abbrev pub fun_shape : ℕ → ℕ → Option (List ℕ) → Option (Shape Reference)
 fun_shape functions below (Some (number ∷ words)) =
-    if nat_eq (number % 16) 15 && nat_lt (number / 16) functions then Some (Fun (number / 16) (parts below words)) else None
+    if nat_eq (number % INTEGER_SCALE) INTEGER_TAG && nat_lt (number / INTEGER_SCALE) functions then Some (Fun (number / INTEGER_SCALE) (parts below words)) else None
 fun_shape functions below _ = None
 
--- an object by its header: 64 times the number of elements of a tuple, or 20 more than 64 times the number of captured values of a fun
+-- an object by its header, which has the number of a tuple's elements or of a fun's captured values above its low bits
 abbrev pub object_shape : Symbols → List ℕ → ℕ → Option ℕ → Option (Shape Reference)
 object_shape symbols heap i None = None
 object_shape symbols heap i (Some header) =
-    if nat_eq (header % 64) 0 then tuple_shape i (words_from heap (suc i) (header / 64))
-    else if nat_eq (header % 64) 20 then fun_shape symbols.functions i (words_from heap (suc i) (suc (header / 64)))
+    if nat_eq (header % HEADER_SCALE) TUPLE_HEADER then tuple_shape i (words_from heap (suc i) (header / HEADER_SCALE))
+    else if nat_eq (header % HEADER_SCALE) FUN_HEADER then fun_shape symbols.functions i (words_from heap (suc i) (suc (header / HEADER_SCALE)))
     else None
 
 -- the heap's word at an address, by number, where it is lower than the limit
@@ -79,15 +80,15 @@ abbrev pub object_at : Symbols → List ℕ → Option ℕ → Option (Shape Ref
 object_at symbols heap None = None
 object_at symbols heap (Some i) = object_shape symbols heap i (slice_get heap i)
 
--- An integer ends in the bits 1111, an atom is 64 times its number and 11, nil is 59, a list the address of its first element and 1,
--- a tuple or fun the address of its header and 2.
+-- By its low bits: an integer and an atom's number stand above their tags, nil is one word, and a list, a tuple and a fun are the address
+-- of their first word with a tag added.
 unfoldable pub shape_at : Symbols → List ℕ → Reference → Option (Shape Reference)
 shape_at symbols heap at =
-    if nat_eq (at.word % 16) 15 then Some (Integer (integer_in at.word))
-    else if nat_eq (at.word % 64) 11 then atom_shape (slice_get symbols.atoms (at.word / 64))
-    else if nat_eq at.word 59 then Some Nil
-    else if nat_eq (at.word % 8) 1 then cons_at heap (lower heap at.below (at.word - 1))
-    else if nat_eq (at.word % 8) 2 then object_at symbols heap (lower heap at.below (at.word - 2))
+    if nat_eq (at.word % INTEGER_SCALE) INTEGER_TAG then Some (Integer (integer_in at.word))
+    else if nat_eq (at.word % ATOM_SCALE) ATOM_TAG then atom_shape (slice_get symbols.atoms (at.word / ATOM_SCALE))
+    else if nat_eq at.word NIL_WORD then Some Nil
+    else if nat_eq (at.word % POINTER_SCALE) CONS_TAG then cons_at heap (lower heap at.below (at.word - CONS_TAG))
+    else if nat_eq (at.word % POINTER_SCALE) OBJECT_TAG then object_at symbols heap (lower heap at.below (at.word - OBJECT_TAG))
     else None
 
 -- the shape with something made of each part

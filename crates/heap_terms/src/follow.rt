@@ -1,15 +1,16 @@
 // Whether a word stands for a term.
 
-ghost use Rattle.std.specs.Prelude.{◌≡◌, ◌≤◌, ◌<◌, ◌+◌, ◌&&◌, ◌++◌, [], ◌∷◌, length, IfOk, OnOk};
+ghost use Rattle.std.specs.Prelude.{◌≡◌, ◌≤◌, ◌++◌, true, [], ◌∷◌, length, IfOk, OnOk};
 ghost use Rattle.region_memory.specs.declared.layout.TheConstants.{HEAP_LIMIT};
 ghost use Rattle.heap_terms.specs.Terms.{term_at, term_below, is_some};
 ghost use Rattle.heap_terms.specs.Parts.{size_below};
-ghost use Rattle.heap_terms.specs.Following.{words_stand, words_size, pending_stands, pending_size, stand_last, size_last};
+ghost use Rattle.heap_terms.specs.Following.{words_stand, words_size, pending_stands, pending_size, stand_last, StandsOn, IsLess, IsAtMost};
 ghost use Rattle.heap_terms.specs.Seen.{symbols_of, reference_of};
 
 use crate::shape::{Reference, Shape, shape_at};
 use crate::symbols::Symbols;
-use std::alloc::{AllocError, Global};
+use hipe_base::Memory;
+use std::alloc::Global;
 
 /// Words that are still to be followed.
 #[derive(Clone, Copy)]
@@ -23,7 +24,7 @@ enum Pending<'a> {
 /// Whether a word outside the heap stands for a term. It follows the whole term. An error where there is no memory for what is
 /// still to be followed.
 #[tactic(auto, using(crate::proofs::Following::following))]
-pub fn stands(alloc: Global, symbols: &Symbols, heap: &[u64], word: u64) -> Result<bool, AllocError>
+pub fn stands(alloc: Global, symbols: &Symbols, heap: &[u64], word: u64) -> Result<bool, Memory>
     requires { length heap.now ≤ HEAP_LIMIT }
     ensures { IfOk result (λ yes. yes ≡ is_some (term_at (symbols_of symbols.now) heap.now word)) }
 {
@@ -42,7 +43,7 @@ pub fn words_stand(
     heap: &[u64],
     below: usize,
     words: &[u64],
-) -> Result<bool, AllocError>
+) -> Result<bool, Memory>
     requires { length heap.now ≤ HEAP_LIMIT }
     ensures { IfOk result (λ yes. yes ≡ words_stand (symbols_of symbols.now) heap.now below words.now) }
 {
@@ -57,7 +58,7 @@ fn follow_all<'a>(
     symbols: &'a Symbols,
     heap: &'a [u64],
     mut pending: Vec<Pending<'a>>,
-) -> Result<bool, AllocError>
+) -> Result<bool, Memory>
     requires { length heap.now ≤ HEAP_LIMIT }
     ensures { IfOk result (λ yes. yes ≡ stand_last (symbols_of symbols.now) heap.now pending.entry.items) }
 {
@@ -76,10 +77,12 @@ fn follow<'a>(
     heap: &'a [u64],
     next: Pending<'a>,
     pending: &mut Vec<Pending<'a>>,
-) -> Result<bool, AllocError>
+) -> Result<bool, Memory>
     requires { length heap.now ≤ HEAP_LIMIT }
-    ensures stands { IfOk result (λ yes. (yes && stand_last (symbols_of symbols.now) heap.now pending.new.items) ≡ (pending_stands (symbols_of symbols.now) heap.now next.entry && stand_last (symbols_of symbols.now) heap.now pending.old.items)) }
-    ensures less { OnOk result (size_last (symbols_of symbols.now) heap.now pending.new.items < pending_size (symbols_of symbols.now) heap.now next.entry + size_last (symbols_of symbols.now) heap.now pending.old.items) }
+    ensures stands { IfOk result (λ yes. StandsOn (symbols_of symbols.now) heap.now yes pending.new.items
+        (pending_stands (symbols_of symbols.now) heap.now next.entry) pending.old.items) }
+    ensures less { OnOk result (IsLess (symbols_of symbols.now) heap.now pending.new.items
+        (pending_size (symbols_of symbols.now) heap.now next.entry) pending.old.items) }
 {
     match next {
         Pending::One(at) => follow_one(symbols, heap, at, pending),
@@ -100,10 +103,12 @@ fn follow_one<'a>(
     heap: &'a [u64],
     at: Reference,
     pending: &mut Vec<Pending<'a>>,
-) -> Result<bool, AllocError>
+) -> Result<bool, Memory>
     requires { length heap.now ≤ HEAP_LIMIT }
-    ensures stands { IfOk result (λ yes. (yes && stand_last (symbols_of symbols.now) heap.now pending.new.items) ≡ (is_some (term_below (symbols_of symbols.now) heap.now (reference_of at)) && stand_last (symbols_of symbols.now) heap.now pending.old.items)) }
-    ensures less { OnOk result (size_last (symbols_of symbols.now) heap.now pending.new.items < size_below (symbols_of symbols.now) heap.now (reference_of at) + size_last (symbols_of symbols.now) heap.now pending.old.items) }
+    ensures stands { IfOk result (λ yes. StandsOn (symbols_of symbols.now) heap.now yes pending.new.items
+        (is_some (term_below (symbols_of symbols.now) heap.now (reference_of at))) pending.old.items) }
+    ensures less { OnOk result (IsLess (symbols_of symbols.now) heap.now pending.new.items
+        (size_below (symbols_of symbols.now) heap.now (reference_of at)) pending.old.items) }
 {
     match shape_at(symbols, heap, at) {
         None => return Ok(false),
@@ -136,9 +141,11 @@ fn push_words<'a>(
     below: usize,
     words: &'a [u64],
     pending: &mut Vec<Pending<'a>>,
-) -> Result<(), AllocError>
-    ensures stands { OnOk result (stand_last (symbols_of symbols.now) heap.now pending.new.items ≡ (words_stand (symbols_of symbols.now) heap.now below words.now && stand_last (symbols_of symbols.now) heap.now pending.old.items)) }
-    ensures size { OnOk result (size_last (symbols_of symbols.now) heap.now pending.new.items ≤ words_size (symbols_of symbols.now) heap.now below words.now + size_last (symbols_of symbols.now) heap.now pending.old.items) }
+) -> Result<(), Memory>
+    ensures stands { OnOk result (StandsOn (symbols_of symbols.now) heap.now true pending.new.items
+        (words_stand (symbols_of symbols.now) heap.now below words.now) pending.old.items) }
+    ensures size { OnOk result (IsAtMost (symbols_of symbols.now) heap.now pending.new.items
+        (words_size (symbols_of symbols.now) heap.now below words.now) pending.old.items) }
 {
     if words.is_empty() {
         return Ok(());
@@ -148,11 +155,11 @@ fn push_words<'a>(
 
 // Puts words behind the others.
 #[tactic(auto, using(crate::proofs::Following::following))]
-fn push<'a>(pending: &mut Vec<Pending<'a>>, next: Pending<'a>) -> Result<(), AllocError>
+fn push<'a>(pending: &mut Vec<Pending<'a>>, next: Pending<'a>) -> Result<(), Memory>
     ensures { OnOk result (pending.new.items ≡ pending.old.items ++ next.entry ∷ []) }
 {
     match pending.push(next) {
         Ok(()) => Ok(()),
-        Err(_) => Err(AllocError),
+        Err(_) => Err(Memory),
     }
 }

@@ -4,11 +4,14 @@
 // What a list or an object is made of stands in the heap. An object refers only to objects that begin below its own first word,
 // so every word is followed to an end.
 //
-// Promised here: `shape_at` says what a word is; `stands` whether a word stands for a term, `show_word` the text of the term, and
+// Promises: `shape_at` says what a word is; `stands` whether a word stands for a term, `show_word` the text of the term, and
 // `build` puts constants into words of the heap, each exactly as its definition in specs/ says. Nothing recurs on the data of a
 // heap, so lists of any length and terms of any depth are followed.
 //
+// May touch: memory alone, for texts and words.
+//
 // Files:
+//   tags.rt      the tags of words
 //   symbols.rt   what is known of a program where its words are read
 //   shape.rt     what a word is
 //   follow.rt    whether a word stands for a term
@@ -28,6 +31,7 @@ mod piece;
 pub mod shape;
 pub mod show;
 pub mod symbols;
+pub mod tags;
 #[cfg(test)]
 mod tests;
 

@@ -3,7 +3,7 @@
 ghost use Rattle.std.specs.Prelude.{◌≡◌, ◌++◌, [], ◌∷◌, OnOk};
 
 use crate::shape::Reference;
-use std::alloc::AllocError;
+use hipe_base::Memory;
 
 /// A part of a text that is still to be written.
 #[derive(Clone, Copy)]
@@ -21,11 +21,11 @@ pub enum Piece<'a> {
 }
 
 /// Puts a piece behind the others. An error where there is no memory for it.
-pub fn push<'a>(pieces: &mut Vec<Piece<'a>>, piece: Piece<'a>) -> Result<(), AllocError>
+pub fn push<'a>(pieces: &mut Vec<Piece<'a>>, piece: Piece<'a>) -> Result<(), Memory>
     ensures { OnOk result (pieces.new.items ≡ pieces.old.items ++ piece.entry ∷ []) }
 {
     match pieces.push(piece) {
         Ok(()) => Ok(()),
-        Err(_) => Err(AllocError),
+        Err(_) => Err(Memory),
     }
 }

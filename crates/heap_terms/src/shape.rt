@@ -7,6 +7,10 @@ ghost use Rattle.heap_terms.specs.Shapes.{shape_at, lower, words_from, atom_shap
 ghost use Rattle.heap_terms.specs.Seen.{symbols_of, reference_of, shape_seen};
 
 use crate::symbols::Symbols;
+use crate::tags::{
+    ATOM_SCALE, ATOM_TAG, CONS_TAG, FUN_HEADER, HEADER_SCALE, INTEGER_SCALE, INTEGER_TAG, NIL_WORD,
+    OBJECT_TAG, POINTER_SCALE, TUPLE_HEADER,
+};
 use hipe_terms::Atom;
 use region_memory::layout::HEAP_END;
 
@@ -51,29 +55,29 @@ pub fn shape_at<'a>(symbols: &'a Symbols, heap: &'a [u64], at: Reference) -> Opt
     ensures { shape_seen result ≡ shape_at (symbols_of symbols.now) heap.now (reference_of at) }
 {
     let Reference { below, word } = at;
-    if word % 16 == 15 {
+    if word % INTEGER_SCALE == INTEGER_TAG {
         Some(Shape::Integer(integer_in(word)))
-    } else if word % 64 == 11 {
-        atom_at(symbols, (word / 64) as usize)
-    } else if word == 59 {
+    } else if word % ATOM_SCALE == ATOM_TAG {
+        atom_at(symbols, (word / ATOM_SCALE) as usize)
+    } else if word == NIL_WORD {
         Some(Shape::Nil)
-    } else if word % 8 == 1 {
-        cons_at(heap, lower(heap, below, word - 1))
-    } else if word % 8 == 2 {
-        object_at(symbols, heap, lower(heap, below, word - 2))
+    } else if word % POINTER_SCALE == CONS_TAG {
+        cons_at(heap, lower(heap, below, word - CONS_TAG))
+    } else if word % POINTER_SCALE == OBJECT_TAG {
+        object_at(symbols, heap, lower(heap, below, word - OBJECT_TAG))
     } else {
         None
     }
 }
 
-// The integer in a word whose low four bits are 15: the other bits are the integer in two's complement.
+// The integer in a word with the tag of one: the other bits are the integer in two's complement.
 fn integer_in(word: u64) -> i64
     ensures { result ≡ integer_in word }
 {
     if word < 1 << 63 {
-        (word / 16) as i64
+        (word / INTEGER_SCALE) as i64
     } else {
-        -1 - ((u64::MAX - word) / 16) as i64
+        -1 - ((u64::MAX - word) / INTEGER_SCALE) as i64
     }
 }
 
@@ -137,8 +141,7 @@ fn object_at<'a>(symbols: &Symbols, heap: &'a [u64], at: Option<usize>) -> Optio
     }
 }
 
-// An object by its header: 64 times the number of elements of a tuple, or 20 more than 64 times the number of captured values of
-// a fun.
+// An object by its header, which has the number of a tuple's elements or of a fun's captured values above its low bits.
 fn object_shape<'a>(
     symbols: &Symbols,
     heap: &'a [u64],
@@ -149,10 +152,10 @@ fn object_shape<'a>(
     requires within { below < length heap.now }
     ensures { shape_seen result ≡ object_shape (symbols_of symbols.now) heap.now below (Some header) }
 {
-    let parts = (header / 64) as usize;
-    if header % 64 == 0 {
+    let parts = (header / HEADER_SCALE) as usize;
+    if header % HEADER_SCALE == TUPLE_HEADER {
         tuple_shape(below, words_from(heap, below + 1, parts))
-    } else if header % 64 == 20 {
+    } else if header % HEADER_SCALE == FUN_HEADER {
         fun_shape(
             symbols.functions,
             below,
@@ -175,8 +178,8 @@ fn fun_shape(functions: u64, below: usize, words: Option<&[u64]>) -> Option<Shap
     ensures { shape_seen result ≡ fun_shape functions below (option_map (λ w. w.now) words.entry) }
 {
     let (first, captured) = words?.split_first()?;
-    let number = *first / 16;
-    if *first % 16 == 15 && number < functions {
+    let number = *first / INTEGER_SCALE;
+    if *first % INTEGER_SCALE == INTEGER_TAG && number < functions {
         Some(Shape::Fun {
             number,
             below,

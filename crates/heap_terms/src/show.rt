@@ -1,11 +1,11 @@
 // The text of the term for which a word stands.
 
-ghost use Rattle.std.specs.Prelude.{◌≡◌, ◌≤◌, ◌<◌, ◌+◌, ◌++◌, true, false, length, Ok, IfOk, OnOk, OnErr, string_bytes};
+ghost use Rattle.std.specs.Prelude.{◌≡◌, ◌≤◌, ◌+◌, ◌++◌, true, false, length, Ok, IfOk, OnOk, OnErr, string_bytes};
 ghost use Rattle.std.specs.Fmt.{signed_decimal};
 ghost use Rattle.region_memory.specs.declared.layout.TheConstants.{HEAP_LIMIT};
 ghost use Rattle.heap_terms.specs.Following.{terms_below, words_size};
 ghost use Rattle.heap_terms.specs.Parts.{size_below};
-ghost use Rattle.heap_terms.specs.Pieces.{Writes, followed_by, text_of, rest_text, all_text, more_text, bar_text, tuple_written, piece_text, text_last, piece_size, size_last};
+ghost use Rattle.heap_terms.specs.Pieces.{IsLess, WritesFirst, followed_by, text_of, rest_text, all_text, more_text, bar_text, tuple_written, piece_text, text_last, piece_size};
 ghost use Rattle.heap_terms.specs.Seen.{symbols_of, reference_of};
 ghost use Rattle.heap_terms.specs.Terms.{term_at, term_below, HasShown};
 
@@ -14,8 +14,9 @@ use crate::fun::show_fun;
 use crate::piece::{Piece, push};
 use crate::shape::{Reference, Shape, shape_at};
 use crate::symbols::Symbols;
+use hipe_base::Memory;
 use hipe_terms::show_atom;
-use std::alloc::{AllocError, Global};
+use std::alloc::Global;
 
 /// Appends the text of the term for which a word outside the heap stands, in UTF-8, and answers whether it stands for one:
 /// integers in decimal, atoms in single quotes with escapes, lists as `[1,2]` or `[1,2|3]` and tuples as `{1,2}`, without
@@ -23,14 +24,14 @@ use std::alloc::{AllocError, Global};
 ///
 /// # Errors
 ///
-/// `AllocError` where there is no memory for the text. It stays as it was.
+/// `Memory` where there is no memory for the text. It stays as it was.
 pub fn show_word(
     alloc: Global,
     symbols: &Symbols,
     heap: &[u64],
     word: u64,
     text: &mut String,
-) -> Result<bool, AllocError>
+) -> Result<bool, Memory>
     requires { length heap.now ≤ HEAP_LIMIT }
     ensures shown { IfOk result (λ yes. HasShown (symbols_of symbols.now).definitions (string_bytes text.old)
         (term_at (symbols_of symbols.now) heap.now word) yes (string_bytes text.new)) }
@@ -54,7 +55,7 @@ fn show_pieces(
     heap: &[u64],
     word: u64,
     text: &mut String,
-) -> Result<bool, AllocError>
+) -> Result<bool, Memory>
     requires { length heap.now ≤ HEAP_LIMIT }
     ensures { IfOk result (λ yes. HasShown (symbols_of symbols.now).definitions (string_bytes text.old)
         (term_at (symbols_of symbols.now) heap.now word) yes (string_bytes text.new)) }
@@ -80,10 +81,12 @@ fn show_piece<'a>(
     piece: Piece<'a>,
     pieces: &mut Vec<Piece<'a>>,
     text: &mut String,
-) -> Result<bool, AllocError>
+) -> Result<bool, Memory>
     requires { length heap.now ≤ HEAP_LIMIT }
-    ensures text { IfOk result (λ yes. Writes (symbols_of symbols.now) heap.now yes (string_bytes text.new) pieces.new.items (string_bytes text.old) (followed_by (piece_text (symbols_of symbols.now) heap.now piece.entry) (text_last (symbols_of symbols.now) heap.now pieces.old.items))) }
-    ensures less { OnOk result (size_last (symbols_of symbols.now) heap.now pieces.new.items < piece_size (symbols_of symbols.now) heap.now piece.entry + size_last (symbols_of symbols.now) heap.now pieces.old.items) }
+    ensures text { IfOk result (λ yes. WritesFirst (symbols_of symbols.now) heap.now yes (string_bytes text.new) pieces.new.items (string_bytes text.old)
+        (piece_text (symbols_of symbols.now) heap.now piece.entry) pieces.old.items) }
+    ensures less { OnOk result (IsLess (symbols_of symbols.now) heap.now pieces.new.items
+        (piece_size (symbols_of symbols.now) heap.now piece.entry) pieces.old.items) }
 {
     match piece {
         Piece::Term(at) => show_first(alloc, symbols, heap, at, pieces, text),
@@ -112,10 +115,12 @@ fn show_first<'a>(
     at: Reference,
     pieces: &mut Vec<Piece<'a>>,
     text: &mut String,
-) -> Result<bool, AllocError>
+) -> Result<bool, Memory>
     requires { length heap.now ≤ HEAP_LIMIT }
-    ensures text { IfOk result (λ yes. Writes (symbols_of symbols.now) heap.now yes (string_bytes text.new) pieces.new.items (string_bytes text.old) (followed_by (text_of (symbols_of symbols.now).definitions (term_below (symbols_of symbols.now) heap.now (reference_of at))) (text_last (symbols_of symbols.now) heap.now pieces.old.items))) }
-    ensures less { OnOk result (size_last (symbols_of symbols.now) heap.now pieces.new.items < size_below (symbols_of symbols.now) heap.now (reference_of at) + size_last (symbols_of symbols.now) heap.now pieces.old.items) }
+    ensures text { IfOk result (λ yes. WritesFirst (symbols_of symbols.now) heap.now yes (string_bytes text.new) pieces.new.items (string_bytes text.old)
+        (text_of (symbols_of symbols.now).definitions (term_below (symbols_of symbols.now) heap.now (reference_of at))) pieces.old.items) }
+    ensures less { OnOk result (IsLess (symbols_of symbols.now) heap.now pieces.new.items
+        (size_below (symbols_of symbols.now) heap.now (reference_of at)) pieces.old.items) }
 {
     match shape_at(symbols, heap, at) {
         None => return Ok(false),
@@ -155,12 +160,32 @@ fn show_tuple<'a>(
     words: &'a [u64],
     pieces: &mut Vec<Piece<'a>>,
     text: &mut String,
-) -> Result<(), AllocError>
-    ensures text { OnOk result (Writes (symbols_of symbols.now) heap.now true (string_bytes text.new) pieces.new.items (string_bytes text.old) (followed_by (tuple_written (all_text (symbols_of symbols.now).definitions (terms_below (symbols_of symbols.now) heap.now below words.now))) (text_last (symbols_of symbols.now) heap.now pieces.old.items))) }
-    ensures less { OnOk result (size_last (symbols_of symbols.now) heap.now pieces.new.items < words_size (symbols_of symbols.now) heap.now below words.now + 3 + size_last (symbols_of symbols.now) heap.now pieces.old.items) }
+) -> Result<(), Memory>
+    ensures text { OnOk result (WritesFirst (symbols_of symbols.now) heap.now true (string_bytes text.new) pieces.new.items (string_bytes text.old)
+        (tuple_written (all_text (symbols_of symbols.now).definitions (terms_below (symbols_of symbols.now) heap.now below words.now))) pieces.old.items) }
+    ensures less { OnOk result (IsLess (symbols_of symbols.now) heap.now pieces.new.items
+        (words_size (symbols_of symbols.now) heap.now below words.now + 3) pieces.old.items) }
 {
     text.push_str("{")?;
     push(pieces, Piece::TupleEnd)?;
+    push_elements(symbols, heap, below, words, pieces)
+}
+
+// Puts the elements of a tuple behind the others, the first of them last, if there are any.
+#[tactic(auto, using(crate::proofs::Pieces::pieces))]
+fn push_elements<'a>(
+    symbols: &Symbols,
+    heap: &[u64],
+    below: usize,
+    words: &'a [u64],
+    pieces: &mut Vec<Piece<'a>>,
+) -> Result<(), Memory>
+    ensures text { OnOk result (text_last (symbols_of symbols.now) heap.now pieces.new.items
+        ≡ followed_by (all_text (symbols_of symbols.now).definitions (terms_below (symbols_of symbols.now) heap.now below words.now))
+        (text_last (symbols_of symbols.now) heap.now pieces.old.items)) }
+    ensures less { OnOk result (IsLess (symbols_of symbols.now) heap.now pieces.new.items
+        (words_size (symbols_of symbols.now) heap.now below words.now) pieces.old.items) }
+{
     match words.split_first() {
         None => Ok(()),
         Some((first, others)) => {
@@ -191,30 +216,17 @@ fn show_elements<'a>(
     words: &'a [u64],
     pieces: &mut Vec<Piece<'a>>,
     text: &mut String,
-) -> Result<(), AllocError>
-    ensures text { OnOk result (Writes (symbols_of symbols.now) heap.now true (string_bytes text.new) pieces.new.items (string_bytes text.old) (followed_by (more_text (symbols_of symbols.now).definitions (terms_below (symbols_of symbols.now) heap.now below words.now)) (text_last (symbols_of symbols.now) heap.now pieces.old.items))) }
-    ensures less { OnOk result (size_last (symbols_of symbols.now) heap.now pieces.new.items < words_size (symbols_of symbols.now) heap.now below words.now + size_last (symbols_of symbols.now) heap.now pieces.old.items) }
+) -> Result<(), Memory>
+    ensures text { OnOk result (WritesFirst (symbols_of symbols.now) heap.now true (string_bytes text.new) pieces.new.items (string_bytes text.old)
+        (more_text (symbols_of symbols.now).definitions (terms_below (symbols_of symbols.now) heap.now below words.now)) pieces.old.items) }
+    ensures less { OnOk result (IsLess (symbols_of symbols.now) heap.now pieces.new.items
+        (words_size (symbols_of symbols.now) heap.now below words.now) pieces.old.items) }
 {
-    match words.split_first() {
-        None => Ok(()),
-        Some((first, others)) => {
-            text.push_str(",")?;
-            push(
-                pieces,
-                Piece::Elements {
-                    below,
-                    words: others,
-                },
-            )?;
-            push(
-                pieces,
-                Piece::Term(Reference {
-                    below,
-                    word: *first,
-                }),
-            )
-        }
+    if words.is_empty() {
+        return Ok(());
     }
+    text.push_str(",")?;
+    push_elements(symbols, heap, below, words, pieces)
 }
 
 // Writes what the rest of a list begins with.
@@ -225,10 +237,12 @@ fn show_rest<'a>(
     rest: Reference,
     pieces: &mut Vec<Piece<'a>>,
     text: &mut String,
-) -> Result<bool, AllocError>
+) -> Result<bool, Memory>
     requires { length heap.now ≤ HEAP_LIMIT }
-    ensures text { IfOk result (λ yes. Writes (symbols_of symbols.now) heap.now yes (string_bytes text.new) pieces.new.items (string_bytes text.old) (followed_by (rest_text (symbols_of symbols.now).definitions (term_below (symbols_of symbols.now) heap.now (reference_of rest))) (text_last (symbols_of symbols.now) heap.now pieces.old.items))) }
-    ensures less { OnOk result (size_last (symbols_of symbols.now) heap.now pieces.new.items < size_below (symbols_of symbols.now) heap.now (reference_of rest) + 2 + size_last (symbols_of symbols.now) heap.now pieces.old.items) }
+    ensures text { IfOk result (λ yes. WritesFirst (symbols_of symbols.now) heap.now yes (string_bytes text.new) pieces.new.items (string_bytes text.old)
+        (rest_text (symbols_of symbols.now).definitions (term_below (symbols_of symbols.now) heap.now (reference_of rest))) pieces.old.items) }
+    ensures less { OnOk result (IsLess (symbols_of symbols.now) heap.now pieces.new.items
+        (size_below (symbols_of symbols.now) heap.now (reference_of rest) + 2) pieces.old.items) }
 {
     match shape_at(symbols, heap, rest) {
         None => return Ok(false),
@@ -254,16 +268,18 @@ fn show_bar<'a>(
     tail: Reference,
     pieces: &mut Vec<Piece<'a>>,
     text: &mut String,
-) -> Result<(), AllocError>
-    ensures text { OnOk result (Writes (symbols_of symbols.now) heap.now true (string_bytes text.new) pieces.new.items (string_bytes text.old) (followed_by (bar_text (text_of (symbols_of symbols.now).definitions (term_below (symbols_of symbols.now) heap.now (reference_of tail)))) (text_last (symbols_of symbols.now) heap.now pieces.old.items))) }
-    ensures less { OnOk result (size_last (symbols_of symbols.now) heap.now pieces.new.items < size_below (symbols_of symbols.now) heap.now (reference_of tail) + 2 + size_last (symbols_of symbols.now) heap.now pieces.old.items) }
+) -> Result<(), Memory>
+    ensures text { OnOk result (WritesFirst (symbols_of symbols.now) heap.now true (string_bytes text.new) pieces.new.items (string_bytes text.old)
+        (bar_text (text_of (symbols_of symbols.now).definitions (term_below (symbols_of symbols.now) heap.now (reference_of tail)))) pieces.old.items) }
+    ensures less { OnOk result (IsLess (symbols_of symbols.now) heap.now pieces.new.items
+        (size_below (symbols_of symbols.now) heap.now (reference_of tail) + 2) pieces.old.items) }
 {
     text.push_str("|")?;
     push(pieces, Piece::ListEnd)?;
     push(pieces, Piece::Term(tail))
 }
 
-fn show_integer(alloc: Global, n: i64, text: &mut String) -> Result<(), AllocError>
+fn show_integer(alloc: Global, n: i64, text: &mut String) -> Result<(), Memory>
     ensures { OnOk result (string_bytes text.new ≡ string_bytes text.old ++ signed_decimal n) }
 {
     let decimal = format!(in alloc; "{n}")?;

@@ -1,20 +1,11 @@
 -- What a clause reads of the adapters over `std::io`.
 use Rattle.std.specs.Prelude.{ℕ}
-use Rattle.hipe_edge.specs.declared.adapters.StdSource.{StdSource}
-use Rattle.hipe_edge.specs.declared.adapters.StdSink.{StdSink}
+use Rattle.hipe_edge.specs.declared.adapters.Counted.{Counted}
 
--- the reader that a source reads from
-abbrev pub source_reader : {R : Type 0} → StdSource R → R
-source_reader s = s.reader
+-- the reader that a source reads from, or the writer that a sink writes to
+abbrev pub stream_of : {T : Type 0} → Counted T → T
+stream_of s = s.stream
 
--- how many of its reads failed
-abbrev pub source_faults : {R : Type 0} → StdSource R → ℕ
-source_faults s = s.faults
-
--- the writer that a sink writes to
-abbrev pub sink_writer : {W : Type 0} → StdSink W → W
-sink_writer s = s.writer
-
--- how many of its writes failed
-abbrev pub sink_faults : {W : Type 0} → StdSink W → ℕ
-sink_faults s = s.faults
+-- how many of its calls failed
+abbrev pub faults_of : {T : Type 0} → Counted T → ℕ
+faults_of s = s.faults

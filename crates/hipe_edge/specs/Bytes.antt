@@ -2,10 +2,10 @@
 use Rattle.std.specs.Prelude.{ℕ, List, length, take, Option}
 use Rattle.std.specs.Io.KnownBytes.{Appends, Consumes}
 
--- known bytes grow by some front of bs
+-- known bytes grow by some prefix of bs
 abbrev pub AppendsPrefix : Option (List ℕ) → Option (List ℕ) → List ℕ → Type 0
 AppendsPrefix old new bs = (n : ℕ) × Appends old new (take n bs)
 
--- known bytes lose a front, and P holds of how many bytes it has
+-- known bytes lose a prefix, and P holds of how many bytes it has
 abbrev pub TakesCount : Option (List ℕ) → Option (List ℕ) → (ℕ → Type 0) → Type 0
 TakesCount old new P = (bs : List ℕ) × Consumes old new bs × P (length bs)

@@ -27,11 +27,11 @@ Untouched stream = Keeps stream.before stream.after
 abbrev pub Gained : Stream → List ℕ → Type 0
 Gained sink text = Appends sink.before sink.after text
 
--- a front of this was written
+-- a prefix of this was written
 abbrev pub GainedPrefix : Stream → List ℕ → Type 0
 GainedPrefix sink text = AppendsPrefix sink.before sink.after text
 
--- the line was written, or a front of it and a write failed
+-- the line was written, or a prefix of it and a write failed
 abbrev pub GainedUnlessFaulted : Stream → List ℕ → Type 0
 GainedUnlessFaulted sink line = Gained sink line ⊎ (Faulted sink × GainedPrefix sink line)
 

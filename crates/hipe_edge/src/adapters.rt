@@ -1,7 +1,7 @@
 // Sources and sinks over the readers and writers of `std::io`.
 ghost use Rattle.std.specs.Prelude.{◌≡◌, ◌<◌, ◌≤◌, ℕ, length, take, None, Ok, is_err, IfOk, OnErr, if◌then◌else◌};
 ghost use Rattle.std.specs.Io.KnownBytes.{Appends, Consumes, Keeps, IsAtEnd};
-ghost use Rattle.hipe_edge.specs.Adapters.{source_reader, source_faults, sink_writer, sink_faults};
+ghost use Rattle.hipe_edge.specs.Adapters.{stream_of, faults_of};
 ghost use Rattle.hipe_edge.specs.Bytes.{AppendsPrefix};
 ghost use Rattle.hipe_edge.specs.Counts.{counted, Rises};
 
@@ -9,46 +9,51 @@ use super::streams::{Failed, Sink, Source};
 use std::io;
 use std::io::{Read, Write};
 
-/// A source over a reader. It tells no bytes, and counts the reads that failed. The count stands still at
-/// 2^64 - 1.
+/// A reader or a writer, and how many of its calls failed. The count stands still at 2^64 - 1.
 #[derive(Drop)]
-pub struct StdSource<R> {
-    reader: R,
+pub struct Counted<T> {
+    stream: T,
     faults: u64,
 }
 
-impl<R> StdSource<R> {
-    /// A source over this reader, none of whose reads has failed.
-    pub fn new(reader: R) -> StdSource<R>
-        ensures reader { source_reader result ≡ reader }
-        ensures faults { source_faults result ≡ 0 }
+impl<T> Counted<T> {
+    /// A source over this reader or a sink over this writer, none of whose calls has failed.
+    pub fn new(stream: T) -> Counted<T>
+        ensures stream { stream_of result ≡ stream }
+        ensures faults { faults_of result ≡ 0 }
     {
-        StdSource { reader, faults: 0 }
+        Counted { stream, faults: 0 }
     }
 }
 
-impl<R: Read> Source for StdSource<R> {
+/// A source over a reader. It tells no bytes, and counts the reads that failed.
+pub type StdSource<R> = Counted<R>;
+
+/// A sink over a writer. It tells no bytes, flushes at each write, and counts the writes that failed.
+pub type StdSink<W> = Counted<W>;
+
+impl<R: Read> Source for Counted<R> {
     ghost left = { λ _. None };
 
-    ghost faults = { source_faults };
+    ghost faults = { faults_of };
 
     /// Reads once. Each error of the reader is a fault.
     fn read(&mut self, into: &mut [u8]) -> Result<usize, Failed>
         ensures bound { IfOk result (λ n. n ≤ length into.new) }
 
         // What the reader gives, where it tells its bytes.
-        ensures taken { IfOk result (λ n. Consumes (R.remaining (source_reader self.old))
-            (R.remaining (source_reader self.new)) (take n into.new)) }
-        ensures end { result ≡ Ok 0 → 0 < length into.old → IsAtEnd (R.remaining (source_reader self.new)) }
-        ensures kept { OnErr result (Keeps (R.remaining (source_reader self.old))
-            (R.remaining (source_reader self.new))) }
+        ensures taken { IfOk result (λ n. Consumes (R.remaining (stream_of self.old))
+            (R.remaining (stream_of self.new)) (take n into.new)) }
+        ensures end { result ≡ Ok 0 → 0 < length into.old → IsAtEnd (R.remaining (stream_of self.new)) }
+        ensures kept { OnErr result (Keeps (R.remaining (stream_of self.old))
+            (R.remaining (stream_of self.new))) }
 
-        ensures faults { source_faults self.new
-            ≡ (if is_err result then counted (source_faults self.old) else source_faults self.old) }
-        ensures faults_never_fall { source_faults self.old ≤ source_faults self.new }
-        ensures failed { OnErr result (Rises (source_faults self.old) (source_faults self.new)) }
+        ensures faults { faults_of self.new
+            ≡ (if is_err result then counted (faults_of self.old) else faults_of self.old) }
+        ensures faults_never_fall { faults_of self.old ≤ faults_of self.new }
+        ensures failed { OnErr result (Rises (faults_of self.old) (faults_of self.new)) }
     {
-        match self.reader.read(into) {
+        match self.stream.read(into) {
             Ok(n) => Ok(n),
             Err(_) => {
                 self.faults = self.faults.saturating_add(1);
@@ -58,45 +63,27 @@ impl<R: Read> Source for StdSource<R> {
     }
 }
 
-/// A sink over a writer. It tells no bytes, flushes at each write, and counts the writes that failed. The
-/// count stands still at 2^64 - 1.
-#[derive(Drop)]
-pub struct StdSink<W> {
-    writer: W,
-    faults: u64,
-}
-
-impl<W> StdSink<W> {
-    /// A sink over this writer, none of whose writes has failed.
-    pub fn new(writer: W) -> StdSink<W>
-        ensures writer { sink_writer result ≡ writer }
-        ensures faults { sink_faults result ≡ 0 }
-    {
-        StdSink { writer, faults: 0 }
-    }
-}
-
-impl<W: Write> Sink for StdSink<W> {
+impl<W: Write> Sink for Counted<W> {
     ghost written = { λ _. None };
 
-    ghost faults = { sink_faults };
+    ghost faults = { faults_of };
 
     /// Writes once and flushes. Each error of the writer is a fault, and so is a write that takes no byte.
     fn write(&mut self, from: &[u8]) -> Result<usize, Failed>
         ensures bound { IfOk result (λ n. (0 < n) × (n ≤ length from.now)) }
 
         // What the writer holds, where it tells its bytes. A flush may fail after the write took some.
-        ensures appended { IfOk result (λ n. Appends (W.contents (sink_writer self.old))
-            (W.contents (sink_writer self.new)) (take n from.now)) }
-        ensures front { OnErr result (AppendsPrefix (W.contents (sink_writer self.old))
-            (W.contents (sink_writer self.new)) from.now) }
+        ensures appended { IfOk result (λ n. Appends (W.contents (stream_of self.old))
+            (W.contents (stream_of self.new)) (take n from.now)) }
+        ensures prefix { OnErr result (AppendsPrefix (W.contents (stream_of self.old))
+            (W.contents (stream_of self.new)) from.now) }
 
-        ensures faults { sink_faults self.new
-            ≡ (if is_err result then counted (sink_faults self.old) else sink_faults self.old) }
-        ensures faults_never_fall { sink_faults self.old ≤ sink_faults self.new }
-        ensures failed { OnErr result (Rises (sink_faults self.old) (sink_faults self.new)) }
+        ensures faults { faults_of self.new
+            ≡ (if is_err result then counted (faults_of self.old) else faults_of self.old) }
+        ensures faults_never_fall { faults_of self.old ≤ faults_of self.new }
+        ensures failed { OnErr result (Rises (faults_of self.old) (faults_of self.new)) }
     {
-        match write_flushed(&mut self.writer, from) {
+        match write_flushed(&mut self.stream, from) {
             Ok(n) if n > 0 => Ok(n),
             _ => {
                 self.faults = self.faults.saturating_add(1);
@@ -111,7 +98,7 @@ fn write_flushed<W: Write>(writer: &mut W, from: &[u8]) -> io::Result<usize>
     ensures bound { IfOk result (λ n. n ≤ length from.now) }
     ensures appended { IfOk result (λ n. Appends (W.contents writer.old) (W.contents writer.new)
         (take n from.now)) }
-    ensures front { OnErr result (AppendsPrefix (W.contents writer.old) (W.contents writer.new) from.now) }
+    ensures prefix { OnErr result (AppendsPrefix (W.contents writer.old) (W.contents writer.new) from.now) }
 {
     let n = writer.write(from)?;
     writer.flush()?;

@@ -3,13 +3,13 @@ ghost use Rattle.std.specs.Prelude.{◌≡◌, ◌⊎◌, ◌↔◌, ℕ, ◌+�
 ghost use Rattle.hipe_edge.specs.Counts.{counted, Rises};
 ghost use Rattle.hipe_edge.specs.InMemory.{SourceInMemory, SinkInMemory};
 
-use super::Memory;
 use super::streams::{Failed, Sink, Source};
 use super::sure::SureSource;
+use hipe_base::Memory;
 use std::alloc::Global;
 use std::marker::Model;
 
-/// Bytes in memory that are read from their front, and reads of which some fail: those whose numbers,
+/// Bytes in memory that are read from their beginning, and reads of which some fail: those whose numbers,
 /// counted from 1, it is told. The numbers of calls and of faults stand still at 2^64 - 1.
 #[derive(Drop)]
 pub struct MemSource {

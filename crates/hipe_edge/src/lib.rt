@@ -4,17 +4,20 @@
 // count how many of their calls failed. So the contract of a call above can name what was read and written,
 // and can say that it answers a fault only where a read or a write failed while it ran.
 //
-// Promised here: `read_all` gives every byte up to the end, or says that there are too many, or that a read
-// failed; the writers append what they are given, or a front of it where a write failed; the sources and
+// Promises: `read_all` gives every byte up to the end, or says that there are too many, or that a read
+// failed; the writers append what they are given, or a prefix of it where a write failed; the sources and
 // sinks in memory fail exactly at the calls that they are told to.
 //
+// May touch: the readers and writers that the adapters are lent.
+//
 // Files:
-//   streams.rt    the traits `Source` and `Sink`
-//   reading.rt    `read_all`
-//   writing.rt    `write_piece`, `write_pieces`, `write_line`
-//   in_memory.rt  `MemSource` and `MemSink`, whose calls fail where a test wants it
-//   sure.rt       `SureSource` and `CountSink`, which never fail
-//   adapters.rt   `StdSource` and `StdSink`, over the readers and writers of `std::io`
+//   streams.rt     the traits `Source` and `Sink`
+//   reading.rt     `read_all`
+//   writing.rt     `write_piece`, `write_pieces`, `write_line`
+//   in_memory.rt   `MemSource` and `MemSink`, whose calls fail where a test wants it
+//   sure.rt        `SureSource` and `CountSink`, which never fail
+//   adapters.rt    `StdSource` and `StdSink`, over the readers and writers of `std::io`
+//   tests.rt       what no clause says
 #![tactic(auto)]
 
 pub mod adapters;
@@ -26,12 +29,9 @@ pub mod sure;
 mod tests;
 pub mod writing;
 
-pub use adapters::{StdSink, StdSource};
+pub use adapters::{Counted, StdSink, StdSource};
 pub use in_memory::{MemSink, MemSource};
 pub use reading::{READ_PIECE, ReadAllFault, read_all};
 pub use streams::{Failed, Sink, Source};
 pub use sure::{CountSink, SureSource};
 pub use writing::{LINE_PIECE, WriteFault, write_line, write_piece, write_pieces};
-
-/// Want of memory, the error of each call that allocates and fails in no other way.
-pub type Memory = std::alloc::AllocError;

@@ -7,7 +7,8 @@ ghost use Rattle.hipe_edge.specs.declared.reading.ReadAllFault.{ReadAllFault};
 ghost use Rattle.hipe_edge.specs.declared.reading.ReadAllFault.TheVariants.{Memory as NoMemory};
 
 use super::streams::Source;
-use std::alloc::{AllocError, Global};
+use hipe_base::Memory;
+use std::alloc::Global;
 
 /// The most bytes that one read is asked for: 64 KiB, the piece in which pipes and files are read well.
 pub const READ_PIECE: usize = 65_536;
@@ -23,10 +24,10 @@ pub enum ReadAllFault {
     Memory,
 }
 
-impl From<AllocError> for ReadAllFault {
+impl From<Memory> for ReadAllFault {
     ghost from_gives = { λ _ e. e ≡ NoMemory };
 
-    fn from(_error: AllocError) -> ReadAllFault {
+    fn from(_error: Memory) -> ReadAllFault {
         ReadAllFault::Memory
     }
 }

@@ -15,7 +15,7 @@ pub trait Source {
     // How many reads have failed so far. The count stands still at 2^64 - 1.
     ghost faults: { Self → ℕ };
 
-    /// Reads the next bytes into the front of `into`, and answers how many. 0 is the end of the input.
+    /// Reads the next bytes into the beginning of `into`, and answers how many. 0 is the end of the input.
     /// `Failed` takes no byte.
     fn read(&mut self, into: &mut [u8]) -> Result<usize, Failed>
         requires { 0 < length into.old }
@@ -35,7 +35,7 @@ pub trait Sink {
     // How many writes have failed so far. The count stands still at 2^64 - 1.
     ghost faults: { Self → ℕ };
 
-    /// Takes a front of `from`, one byte or more, and answers how many. `Failed` takes none.
+    /// Takes a prefix of `from`, one byte or more, and answers how many. `Failed` takes none.
     fn write(&mut self, from: &[u8]) -> Result<usize, Failed>
         requires { 0 < length from.now }
         ensures bound { IfOk result (λ n. (0 < n) × (n ≤ length from.now)) }

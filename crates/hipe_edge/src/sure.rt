@@ -5,7 +5,7 @@ ghost use Rattle.std.specs.Io.Iter.{u64_saturate};
 use super::streams::{Failed, Sink, Source};
 use std::marker::Model;
 
-/// Bytes in memory that are read from their front. No read fails.
+/// Bytes in memory that are read from their beginning. No read fails.
 ///
 /// Contracts see it as the list of the bytes that are left.
 #[derive(Drop)]

@@ -1,13 +1,14 @@
 // What no clause says: that calls with ample memory succeed, in which pieces bytes are read and written,
 // and what the adapters make of the answers of `std::io`.
 use super::*;
-use std::alloc::{AllocError, Global};
+use hipe_base::Memory;
+use std::alloc::Global;
 use std::io;
 use std::io::{Error, ErrorKind, Read, Write};
 use std::test::Fail;
 
 // `len` bytes, no two neighbours of which are equal.
-fn sample(alloc: Global, len: usize) -> Result<Vec<u8>, AllocError> {
+fn sample(alloc: Global, len: usize) -> Result<Vec<u8>, Memory> {
     let mut bytes = Vec::new(alloc);
     for i in 0..len {
         bytes.push((i % 251) as u8)?;

@@ -10,7 +10,7 @@ use super::streams::Sink;
 /// so that a line of a usual length goes out whole, and a pipe, which takes 4,096 bytes at once, tears none.
 pub const LINE_PIECE: usize = 4_096;
 
-/// A write failed, and a front of the bytes was written.
+/// A write failed, and a prefix of the bytes was written.
 #[derive(Clone, Copy, Debug, PartialEq, Eq)]
 pub struct WriteFault;
 
@@ -18,7 +18,7 @@ pub struct WriteFault;
 ///
 /// # Errors
 ///
-/// `WriteFault` where a write failed: then a front of the bytes was written.
+/// `WriteFault` where a write failed: then a prefix of the bytes was written.
 pub fn write_piece<K: Sink>(sink: &mut K, bytes: &[u8]) -> Result<(), WriteFault>
     ensures ok { OnOk result (Appends (K.written sink.old) (K.written sink.new) bytes.now) }
     ensures err { OnErr result (AppendsPrefix (K.written sink.old) (K.written sink.new) bytes.now) }
@@ -39,7 +39,7 @@ pub fn write_piece<K: Sink>(sink: &mut K, bytes: &[u8]) -> Result<(), WriteFault
 ///
 /// # Errors
 ///
-/// `WriteFault` where a write failed: then a front of the bytes was written.
+/// `WriteFault` where a write failed: then a prefix of the bytes was written.
 pub fn write_pieces<K: Sink>(sink: &mut K, bytes: &[u8], size: usize) -> Result<(), WriteFault>
     requires { 0 < size }
     ensures ok { OnOk result (Appends (K.written sink.old) (K.written sink.new) bytes.now) }
@@ -57,7 +57,7 @@ pub fn write_pieces<K: Sink>(sink: &mut K, bytes: &[u8], size: usize) -> Result<
 ///
 /// # Errors
 ///
-/// `WriteFault` where a write failed: then a front of the line was written.
+/// `WriteFault` where a write failed: then a prefix of the line was written.
 pub fn write_line<K: Sink>(sink: &mut K, line: &[u8]) -> Result<(), WriteFault>
     ensures ok { OnOk result (Appends (K.written sink.old) (K.written sink.new) line.now) }
     ensures err { OnErr result (AppendsPrefix (K.written sink.old) (K.written sink.new) line.now) }

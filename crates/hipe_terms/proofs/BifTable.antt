@@ -1,7 +1,8 @@
 -- Each built-in function of `erlang` at its edges. Each line is checked by computing its left side.
 use Rattle.std.proofs.Common.{◌≡◌, ◌+◌, pos, negsuc, true, List, [], ◌∷◌, refl, codes}
 use Rattle.hipe_terms.specs.Terms.{Term, integer, atom, nil, tuple, fun, terms, cells}
-use Rattle.hipe_terms.specs.Outcome.{Outcome, error, exit, throw, value, builds, gives, raises, badarith, badarg, system_limit, undef, boolean_term, bif_outcome}
+use Rattle.hipe_terms.specs.Outcome.{Outcome, value, builds, gives, raises, badarith, badarg, system_limit, undef, boolean_term, bif_outcome}
+use Rattle.hipe_terms.specs.declared.class.Class.TheVariants as classes
 use Rattle.hipe_terms.specs.declared.bif.Bif.{Bif}
 use Rattle.hipe_terms.specs.declared.bif.Bif.TheVariants.{Add, Subtract, Multiply, Negate, Divide, Remainder, BitAnd, BitOr, BitXor, BitNot, ShiftLeft, ShiftRight, Equal, NotEqual, ExactlyEqual, ExactlyNotEqual, LessThan, AtMost, GreaterThan, AtLeast, And, Or, Not, IsInteger, IsNumber, IsAtom, IsBoolean, IsList, IsTuple, IsFunction, IsFunctionOfArity, Head, Tail, Length, Append, Element, SetElement, TupleSize, Error, Throw, Exit, Display}
 
@@ -618,13 +619,13 @@ tuple_size-2 = refl
 tuple_size-3 : does TupleSize (nil ∷ []) ≡ badarg
 tuple_size-3 = refl
 
-error-1 : does Error ((atom (codes "a")) ∷ []) ≡ raises error (atom (codes "a"))
+error-1 : does Error ((atom (codes "a")) ∷ []) ≡ raises classes.Error (atom (codes "a"))
 error-1 = refl
 
-throw-1 : does Throw ((atom (codes "a")) ∷ []) ≡ raises throw (atom (codes "a"))
+throw-1 : does Throw ((atom (codes "a")) ∷ []) ≡ raises classes.Throw (atom (codes "a"))
 throw-1 = refl
 
-exit-1 : does Exit ((atom (codes "a")) ∷ []) ≡ raises exit (atom (codes "a"))
+exit-1 : does Exit ((atom (codes "a")) ∷ []) ≡ raises classes.Exit (atom (codes "a"))
 exit-1 = refl
 
 display-1 : does Display ((tuple (terms ((integer (pos 7)) ∷ (atom (codes "a")) ∷ []))) ∷ []) ≡ record { end = value (boolean_term true); printed = (tuple (terms ((integer (pos 7)) ∷ (atom (codes "a")) ∷ []))) ∷ []; words = 0 }

@@ -1,5 +1,8 @@
 mod BifTable
+mod ClassTable
+mod PrimopTable
 mod TermTable
+pub mod AtomTexts
 pub mod Levels
 pub mod Parts
 pub mod Ordering

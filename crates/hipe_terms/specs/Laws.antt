@@ -9,6 +9,6 @@ use Rattle.hipe_terms.specs.Order.{order}
 abbrev pub OrderIsTotal : Type 0
 OrderIsTotal = IsTotalOrder order
 
--- neither comes first exactly where the terms are equal
+-- neither comes first if and only if the terms are equal
 abbrev pub OrderTellsApart : Type 0
 OrderTellsApart = (t u : Term) → (order t u ≡ Equal → t ≡ u) × (t ≡ u → order t u ≡ Equal)

@@ -6,5 +6,7 @@ pub mod Range
 pub mod Constants
 pub mod Words
 pub mod Bifs
+pub mod Classes
+pub mod Primops
 pub mod Outcome
 pub mod Laws

@@ -7,14 +7,10 @@ use Rattle.hipe_terms.specs.Terms.{Term, integer, atom, nil, cons, tuple, fun, T
 use Rattle.hipe_terms.specs.Order.{order}
 use Rattle.hipe_terms.specs.Range.{is_in_range}
 use Rattle.hipe_terms.specs.Words.{list_words, tuple_words}
+use Rattle.hipe_terms.specs.declared.class.Class.{Class}
+use Rattle.hipe_terms.specs.declared.class.Class.TheVariants as classes
 use Rattle.hipe_terms.specs.declared.bif.Bif.{Bif}
 use Rattle.hipe_terms.specs.declared.bif.Bif.TheVariants.{Add, Subtract, Multiply, Negate, Divide, Remainder, BitAnd, BitOr, BitXor, BitNot, ShiftLeft, ShiftRight, Equal, NotEqual, ExactlyEqual, ExactlyNotEqual, LessThan, AtMost, GreaterThan, AtLeast, And, Or, Not, IsInteger, IsNumber, IsAtom, IsBoolean, IsList, IsTuple, IsFunction, IsFunctionOfArity, Head, Tail, Length, Append, Element, SetElement, TupleSize, Error, Throw, Exit, Display}
-
--- the three classes of what is raised
-pub data Class : Type 0 where
-  error : Class
-  exit : Class
-  throw : Class
 
 -- how a call ends
 pub data End : Type 0 where
@@ -39,17 +35,17 @@ abbrev pub raises : Class → Term → Outcome
 raises class reason = record { end = raised class reason; printed = []; words = 0 }
 
 abbrev pub badarith : Outcome
-badarith = raises error (atom (codes "badarith"))
+badarith = raises classes.Error (atom (codes "badarith"))
 
 abbrev pub badarg : Outcome
-badarg = raises error (atom (codes "badarg"))
+badarg = raises classes.Error (atom (codes "badarg"))
 
 abbrev pub system_limit : Outcome
-system_limit = raises error (atom (codes "system_limit"))
+system_limit = raises classes.Error (atom (codes "system_limit"))
 
 -- no function of the table
 abbrev pub undef : Outcome
-undef = raises error (atom (codes "undef"))
+undef = raises classes.Error (atom (codes "undef"))
 
 -- an integer as a value, where it is in the range
 abbrev pub number : ℤ → Outcome
@@ -289,7 +285,7 @@ bif_outcome arities Append = binary appended
 bif_outcome arities Element = binary element
 bif_outcome arities SetElement = ternary element_set
 bif_outcome arities TupleSize = unary size_of
-bif_outcome arities Error = unary (raises error)
-bif_outcome arities Throw = unary (raises throw)
-bif_outcome arities Exit = unary (raises exit)
+bif_outcome arities Error = unary (raises classes.Error)
+bif_outcome arities Throw = unary (raises classes.Throw)
+bif_outcome arities Exit = unary (raises classes.Exit)
 bif_outcome arities Display = unary displayed

@@ -1,11 +1,13 @@
 // Atoms: names that stand for themselves.
 
-ghost use Rattle.std.specs.Prelude.{◌≡◌, ◌≤◌, ◌<◌, length, chars, string_bytes, encode_utf8_all, MatchResult, IfOk};
+ghost use Rattle.std.specs.Prelude.{◌≡◌, ◌≤◌, ◌<◌, length, chars, string_bytes, encode_utf8_all, nat_lt, true, bytes_eq, MatchResult, IfOk};
+ghost use Rattle.std.specs.List.{list_all};
 ghost use Rattle.std.specs.Ordering.{nat_cmp};
 ghost use Rattle.std.specs.Cmp.Lexicographic.{slice_cmp};
 
-use crate::limits::ATOM_LIMIT;
-use std::alloc::{AllocError, Global};
+use hipe_base::Memory;
+use hipe_base::limits::ATOM_LIMIT;
+use std::alloc::Global;
 use std::cmp::Ordering;
 use std::marker::Model;
 
@@ -17,7 +19,7 @@ pub struct Atom {
 
 impl Model for Atom {
     ghost use Rattle.std.specs.Prelude.{ℕ, ◌≤◌, List, length, chars, string_bytes};
-    ghost use Rattle.hipe_terms.specs.declared.limits.TheConstants.{ATOM_LIMIT};
+    ghost use Rattle.hipe_base.specs.declared.limits.TheConstants.{ATOM_LIMIT};
 
     ghost Value = { List ℕ };
 
@@ -52,6 +54,14 @@ impl Atom {
         self.text.as_str()
     }
 
+    /// Whether the atom has this text of ASCII. It takes no memory.
+    pub fn has_text(&self, text: &str) -> bool
+        requires { list_all (λ b. nat_lt b 128) text.now ≡ true }
+        ensures { result ≡ bytes_eq self.now text.now }
+    {
+        self.as_str() == text
+    }
+
     /// Every atom has at most `ATOM_LIMIT` code points.
     pub fn keeps_limit(&self)
         ensures { length self.now ≤ ATOM_LIMIT }
@@ -60,7 +70,7 @@ impl Atom {
     }
 
     /// The code points. An error where there is no memory for them.
-    pub fn code_points(&self, alloc: Global) -> Result<Vec<char>, AllocError>
+    pub fn code_points(&self, alloc: Global) -> Result<Vec<char>, Memory>
         ensures { IfOk result (λ points. points.items ≡ self.now) }
     {
         self.text.chars().collect(alloc)

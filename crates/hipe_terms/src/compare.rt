@@ -69,7 +69,7 @@ pub fn order_is_total()
     ensures { OrderIsTotal }
 {}
 
-/// The order of terms tells all terms apart: neither of two comes first exactly where they are equal.
+/// The order of terms tells all terms apart: neither of two comes first if and only if they are equal.
 pub fn order_tells_apart()
     ensures { OrderTellsApart }
 {}

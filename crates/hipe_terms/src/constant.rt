@@ -4,7 +4,7 @@ ghost use Rattle.std.specs.Prelude.{◌≡◌, map};
 ghost use Rattle.hipe_terms.specs.Constants.{form_of, are_all_good, is_list};
 
 use crate::atom::Atom;
-use crate::limits::{GREATEST_INTEGER, LEAST_INTEGER};
+use hipe_base::limits::{GREATEST_INTEGER, LEAST_INTEGER};
 use sqlite_items::{Boxed, Items};
 
 /// A constant. Every call that takes one wants it as the readers give it: an integer is in the range of the limits, a

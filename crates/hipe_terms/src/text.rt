@@ -8,10 +8,8 @@ ghost use Rattle.hipe_terms.specs.Terms.{term_of, terms};
 
 use crate::atom::Atom;
 use crate::constant::Constant;
-use std::alloc::{AllocError, Global};
-
-/// Want of memory.
-pub type Memory = AllocError;
+use hipe_base::Memory;
+use std::alloc::Global;
 
 /// The text of a constant in UTF-8: integers in decimal, atoms in single quotes with escapes, lists as `[1,2]` or
 /// `[1,2|3]` and tuples as `{1,2}`, without spaces. An error where there is no memory for it.

@@ -1,8 +1,12 @@
-// The tests of terms: orders, texts and words by hand. It promises nothing.
+// The tests of terms: orders, texts and words by hand.
+//
+// Promises: nothing.
+//
+// May touch: memory alone.
 //
 // Files:
-//   words.rt      constants whose words are known
-//   tests.rt      the tests
+//   tests.rt   the tests
+//   words.rt   constants whose words are known
 #![tactic(auto)]
 
 #[cfg(test)]

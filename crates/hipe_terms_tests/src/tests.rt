@@ -1,9 +1,10 @@
 // Orders and texts by hand.
 
 use crate::words::pair;
+use hipe_base::Memory;
 use hipe_terms::{Atom, Bif, Constant, is_constant, order, same, show, words_of};
 use sqlite_items::{Boxed, Items};
-use std::alloc::{AllocError, Global};
+use std::alloc::Global;
 use std::cmp::Ordering;
 use std::test::Fail;
 
@@ -18,11 +19,11 @@ fn tuple(parts: Vec<Constant>) -> Constant {
     Constant::Tuple(Items::from_vec(parts))
 }
 
-fn list(alloc: Global, parts: Vec<Constant>, tail: Constant) -> Result<Constant, AllocError> {
+fn list(alloc: Global, parts: Vec<Constant>, tail: Constant) -> Result<Constant, Memory> {
     Ok(Constant::List(Items::from_vec(parts), Boxed::new(alloc, tail)?))
 }
 
-fn integers(alloc: Global, numbers: &[i64]) -> Result<Vec<Constant>, AllocError> {
+fn integers(alloc: Global, numbers: &[i64]) -> Result<Vec<Constant>, Memory> {
     let mut parts = Vec::new(alloc);
     for n in numbers {
         parts.push(Constant::Int(*n))?;

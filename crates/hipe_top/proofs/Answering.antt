@@ -1,4 +1,4 @@
--- Words and bytes have an answer.
+-- Arguments and bytes have an answer.
 use Rattle.std.proofs.Common.{◌≡◌, ℕ, ◌<◌, ◌≤◌, ◌⊎◌, inl, inr, Bool, true, false, List, [], ◌∷◌, length, Option, Some, None, MatchOption, Result, Ok, Err, codes, bytes_eq, get_or, refl, sym, ap, ◌∙◌, arith}
 use Rattle.std.specs.Prelude.{leb}
 use Rattle.std.proofs.lemmas.Bool.Decides.{leb_tells}
@@ -20,36 +20,36 @@ use Rattle.core_sum.specs.declared.sum.SumRefusal.{SumRefusal}
 use Rattle.core_sum.specs.Made.{has_main, sum_of_definitions}
 use Rattle.core_sum.proofs.Modules as modules
 use Rattle.sum_code.proofs.Meaning.{means}
-use Rattle.hipe_top.specs.declared.limits.TheConstants.{TEXT_LIMIT}
-use Rattle.hipe_top.specs.declared.stop.Stop.{Stop}
-use Rattle.hipe_top.specs.declared.words.Mode.{Mode}
-use Rattle.hipe_top.specs.declared.words.Mode.TheVariants.{Check, Run}
-use Rattle.hipe_top.specs.Answers.{Answer, refused, answered, not_yet, AnswerOf, too_long, not_read, not_good, good, not_exported, not_built, sum, Expected, bad_words, of_mode}
-use Rattle.hipe_top.specs.Command.{IsCommand, words_of}
-use Rattle.hipe_top.specs.Finding.{first_word}
+use Rattle.hipe_base.specs.declared.limits.TheConstants.{TEXT_LIMIT}
+use Rattle.hipe_stop.specs.declared.stop.Stop.{Stop}
+use Rattle.hipe_top.specs.declared.arguments.Mode.{Mode}
+use Rattle.hipe_top.specs.declared.arguments.Mode.TheVariants.{Check, Run}
+use Rattle.hipe_top.specs.Answers.{Answer, refused, answered, not_yet, AnswerOf, too_long, not_read, not_good, good, not_exported, not_built, sum, Expected, bad_arguments, of_mode}
+use Rattle.hipe_top.specs.Command.{IsCommand, arguments_of}
+use Rattle.hipe_top.specs.Finding.{first_keyword}
 use Rattle.hipe_top.specs.Texts.{IsGoodText, BeginsAt}
-use Rattle.hipe_top.proofs.Placing.{word_found, begins_at}
+use Rattle.hipe_top.proofs.Placing.{keyword_found, begins_at}
 
--- ---- words are those of a mode, or aren't
+-- ---- arguments are those of a mode, or aren't
 
-other_count : (words : List (List ℕ)) (n : ℕ) → length words ≡ n → (n ≡ 1 → ⊥) → (n ≡ 2 → ⊥) → IsCommand words → ⊥
-other_count words n is one two (Check, e) = one (sym is ∙ ap length e)
-other_count words n is one two (Run, e) = two (sym is ∙ ap length e)
+other_count : (arguments : List (List ℕ)) (n : ℕ) → length arguments ≡ n → (n ≡ 1 → ⊥) → (n ≡ 2 → ⊥) → IsCommand arguments → ⊥
+other_count arguments n is one two (Check, e) = one (sym is ∙ ap length e)
+other_count arguments n is one two (Run, e) = two (sym is ∙ ap length e)
 
-word_at : (words others : List (List ℕ)) (k : ℕ) → words ≡ others → get_or words k [] ≡ get_or others k []
-word_at words others k e = ap (λ ws. get_or ws k []) e
+argument_at : (arguments others : List (List ℕ)) (k : ℕ) → arguments ≡ others → get_or arguments k [] ≡ get_or others k []
+argument_at arguments others k e = ap (λ ws. get_or ws k []) e
 
 differ : (a b : List ℕ) → bytes_eq a b ≡ false → a ≡ b → ⊥
 differ a b unequal same = let equal : bytes_eq a b ≡ true = (bytes_eq-Decides a b).1 same in absurd (cc)
 
-command_or_not : (words : List (List ℕ)) → IsCommand words ⊎ (IsCommand words → ⊥)
+command_or_not : (arguments : List (List ℕ)) → IsCommand arguments ⊎ (IsCommand arguments → ⊥)
 command_or_not [] = inr (other_count [] 0 refl (λ e. absurd (omega (arith, e))) (λ e. absurd (omega (arith, e))))
 command_or_not (w ∷ []) = go (bytes_eq w (codes "check")) refl where
   go : (b : Bool) → bytes_eq w (codes "check") ≡ b → IsCommand (w ∷ []) ⊎ (IsCommand (w ∷ []) → ⊥)
   go true e = inl (Check, ap (λ x. x ∷ []) ((bytes_eq-Decides w (codes "check")).0 e))
   go false e = inr not where
     not : IsCommand (w ∷ []) → ⊥
-    not (Check, h) = differ w (codes "check") e (word_at (w ∷ []) (words_of Check) 0 h)
+    not (Check, h) = differ w (codes "check") e (argument_at (w ∷ []) (arguments_of Check) 0 h)
     not (Run, h) = let sizes : 1 ≡ 2 = ap length h in absurd (omega (arith, sizes))
 command_or_not (w ∷ v ∷ []) = go (bytes_eq w (codes "run")) refl (bytes_eq v (codes "'main'()")) refl where
   go : (b : Bool) → bytes_eq w (codes "run") ≡ b → (c : Bool) → bytes_eq v (codes "'main'()") ≡ c → IsCommand (w ∷ v ∷ []) ⊎ (IsCommand (w ∷ v ∷ []) → ⊥)
@@ -57,11 +57,11 @@ command_or_not (w ∷ v ∷ []) = go (bytes_eq w (codes "run")) refl (bytes_eq v
   go true e false f = inr not where
     not : IsCommand (w ∷ v ∷ []) → ⊥
     not (Check, h) = let sizes : 2 ≡ 1 = ap length h in absurd (omega (arith, sizes))
-    not (Run, h) = differ v (codes "'main'()") f (word_at (w ∷ v ∷ []) (words_of Run) 1 h)
+    not (Run, h) = differ v (codes "'main'()") f (argument_at (w ∷ v ∷ []) (arguments_of Run) 1 h)
   go false e c f = inr not where
     not : IsCommand (w ∷ v ∷ []) → ⊥
     not (Check, h) = let sizes : 2 ≡ 1 = ap length h in absurd (omega (arith, sizes))
-    not (Run, h) = differ w (codes "run") e (word_at (w ∷ v ∷ []) (words_of Run) 0 h)
+    not (Run, h) = differ w (codes "run") e (argument_at (w ∷ v ∷ []) (arguments_of Run) 0 h)
 command_or_not (w ∷ v ∷ u ∷ ws) = inr (other_count (w ∷ v ∷ u ∷ ws) (length (w ∷ v ∷ u ∷ ws)) refl (λ e. absurd (omega (arith, e))) (λ e. absurd (omega (arith, e))))
 
 -- ---- an input has an answer
@@ -71,9 +71,9 @@ module _ (bytes : List ℕ) where
   Answered mode = (a : Answer) × AnswerOf bytes mode a
 
   begins : (m : Module) → Reads bytes m → (p : Place) × BeginsAt bytes p
-  begins m reads = go (first_word bytes reads.0) refl where
-    go : (found : Option Place) → first_word bytes reads.0 ≡ found → (p : Place) × BeginsAt bytes p
-    go None none = absurd (word_found bytes reads.0 reads.1 (m, reads) none)
+  begins m reads = go (first_keyword bytes reads.0) refl where
+    go : (found : Option Place) → first_keyword bytes reads.0 ≡ found → (p : Place) × BeginsAt bytes p
+    go None none = absurd (keyword_found bytes reads.0 reads.1 (m, reads) none)
     go (Some p) is = (p, begins_at bytes reads.0 p reads.1 is)
 
   built : (m : Module) → IsGoodText bytes m → has_main (module_of m).exports ≡ true → (r : Result Sum Place) → sum_of_definitions (module_of m).definitions ≡ r → Answered Run
@@ -108,8 +108,8 @@ module _ (bytes : List ℕ) where
     within (inl h) = let r = some_reading bytes in read h.1 r.0 r.1
     within (inr h) = (refused Stop.TooLong, too_long h.1)
 
-pub some : (words : List (List ℕ)) (bytes : List ℕ) → (a : Answer) × Expected words bytes a
-some words bytes = go (command_or_not words) where
-  go : IsCommand words ⊎ (IsCommand words → ⊥) → (a : Answer) × Expected words bytes a
+pub some : (arguments : List (List ℕ)) (bytes : List ℕ) → (a : Answer) × Expected arguments bytes a
+some arguments bytes = go (command_or_not arguments) where
+  go : IsCommand arguments ⊎ (IsCommand arguments → ⊥) → (a : Answer) × Expected arguments bytes a
   go (inl (mode, is)) = let a = some_of bytes mode in (a.0, of_mode mode is a.1)
-  go (inr bad) = (refused Stop.Words, bad_words bad)
+  go (inr bad) = (refused Stop.Arguments, bad_arguments bad)

@@ -13,14 +13,14 @@ use Rattle.core_reader.proofs.Unique.{one_reading}
 use Rattle.core_sum.specs.declared.sum.Sum.{Sum}
 use Rattle.core_sum.specs.Form.{IsSumModule}
 use Rattle.core_sum.proofs.Unique.{not_both}
-use Rattle.hipe_top.specs.declared.limits.TheConstants.{TEXT_LIMIT}
-use Rattle.hipe_top.specs.declared.stop.Stop.{Stop}
-use Rattle.hipe_top.specs.declared.words.Mode.{Mode}
-use Rattle.hipe_top.specs.declared.words.Mode.TheVariants.{Check, Run}
-use Rattle.hipe_top.specs.Answers.{Answer, refused, AnswerOf, too_long, not_read, not_good, good, not_exported, not_built, sum, Expected, bad_words, of_mode}
-use Rattle.hipe_top.specs.Command.{words_of}
+use Rattle.hipe_base.specs.declared.limits.TheConstants.{TEXT_LIMIT}
+use Rattle.hipe_stop.specs.declared.stop.Stop.{Stop}
+use Rattle.hipe_top.specs.declared.arguments.Mode.{Mode}
+use Rattle.hipe_top.specs.declared.arguments.Mode.TheVariants.{Check, Run}
+use Rattle.hipe_top.specs.Answers.{Answer, refused, AnswerOf, too_long, not_read, not_good, good, not_exported, not_built, sum, Expected, bad_arguments, of_mode}
+use Rattle.hipe_top.specs.Command.{arguments_of}
 use Rattle.hipe_top.specs.Outcome.{Accepts}
-use Rattle.hipe_top.specs.Stops.{status_of, stop_of_reading}
+use Rattle.hipe_stop.specs.Stops.{status_of, stop_of_reading}
 use Rattle.hipe_top.specs.Texts.{IsGoodText, Takes, Refuses}
 
 -- ---- statuses
@@ -90,7 +90,8 @@ decides bytes _ _ (sum m e g is ends) = inl (refl, (m, g, (e, is)), run)
     run (inr none) = none m g.reads g.good e is
 
 never_zero : (stop : Stop) → status_of stop ≡ 0 → ⊥
-never_zero Stop.Words h = absurd (omega (arith, h))
+never_zero Stop.Arguments h = absurd (omega (arith, h))
+never_zero (Stop.Call p) h = absurd (omega (arith, h))
 never_zero Stop.TooLong h = absurd (omega (arith, h))
 never_zero (Stop.Refused r p) h = absurd (omega (arith, h))
 never_zero Stop.ReadFault h = absurd (omega (arith, h))
@@ -104,36 +105,36 @@ refused_status bytes mode stop a = of (decides bytes mode (refused stop) a)
     of (inl d) = absurd (never_zero stop d.0)
     of (inr d) = d.0
 
--- ---- words
+-- ---- arguments
 
--- words name one mode
-pub one_mode : (a b : Mode) → words_of a ≡ words_of b → a ≡ b
+-- arguments name one mode
+pub one_mode : (a b : Mode) → arguments_of a ≡ arguments_of b → a ≡ b
 one_mode Check Check h = refl
 one_mode Run Run h = refl
 one_mode Check Run h = absurd (let sizes : 1 ≡ 2 = ap length h in omega (arith, sizes))
 one_mode Run Check h = absurd (let sizes : 2 ≡ 1 = ap length h in omega (arith, sizes))
 
--- ---- the answers to words and bytes
+-- ---- the answers to arguments and bytes
 
-accepts_of : (words : List (List ℕ)) (mode : Mode) (bytes : List ℕ) (status : ℕ) → words ≡ words_of mode → Decides bytes mode status → Accepts words bytes status
-accepts_of words mode bytes status named (inl (zero, taken, not_refused)) =
+accepts_of : (arguments : List (List ℕ)) (mode : Mode) (bytes : List ℕ) (status : ℕ) → arguments ≡ arguments_of mode → Decides bytes mode status → Accepts arguments bytes status
+accepts_of arguments mode bytes status named (inl (zero, taken, not_refused)) =
     record {
       returns = (λ _. (mode, named, taken), λ _. zero);
-      refuses_words = (λ two. absurd (omega (arith, zero, two)), λ bad. absurd (bad (mode, named)));
+      refuses_arguments = (λ two. absurd (omega (arith, zero, two)), λ bad. absurd (bad (mode, named)));
       refuses = (λ three. absurd (omega (arith, zero, three)), λ r. absurd (not_refused (subst (λ n. Refuses n bytes) (one_mode r.0 mode (sym r.1 ∙ named)) r.2)));
     }
-accepts_of words mode bytes status named (inr (three, not_taken, refuses)) =
+accepts_of arguments mode bytes status named (inr (three, not_taken, refuses)) =
     record {
       returns = (λ zero. absurd (omega (arith, zero, three)), λ t. absurd (not_taken (subst (λ n. Takes n bytes) (one_mode t.0 mode (sym t.1 ∙ named)) t.2)));
-      refuses_words = (λ two. absurd (omega (arith, three, two)), λ bad. absurd (bad (mode, named)));
+      refuses_arguments = (λ two. absurd (omega (arith, three, two)), λ bad. absurd (bad (mode, named)));
       refuses = (λ _. (mode, named, refuses), λ _. three);
     }
 
-pub expected_accepts : {words : List (List ℕ)} {bytes : List ℕ} {answer : Answer} → Expected words bytes answer → Accepts words bytes answer.status
-expected_accepts (bad_words bad) =
+pub expected_accepts : {arguments : List (List ℕ)} {bytes : List ℕ} {answer : Answer} → Expected arguments bytes answer → Accepts arguments bytes answer.status
+expected_accepts (bad_arguments bad) =
     record {
       returns = (λ e. absurd (omega (arith, e)), λ p. absurd (bad (p.0, p.1)));
-      refuses_words = (λ _. bad, λ _. refl);
+      refuses_arguments = (λ _. bad, λ _. refl);
       refuses = (λ e. absurd (omega (arith, e)), λ p. absurd (bad (p.0, p.1)));
     }
-expected_accepts {words} {bytes} {answer} (of_mode mode is a) = accepts_of words mode bytes answer.status is (decides bytes mode answer a)
+expected_accepts {arguments} {bytes} {answer} (of_mode mode is a) = accepts_of arguments mode bytes answer.status is (decides bytes mode answer a)

@@ -1,4 +1,4 @@
--- Words and bytes have one answer alone.
+-- Arguments and bytes have one answer alone.
 use Rattle.std.proofs.Common.{◌≡◌, ℕ, ◌<◌, ◌≤◌, List, length, codes, refl, sym, ap, ◌∙◌, subst, arith}
 use Rattle.hipe_terms.specs.declared.place.Place.{Place}
 use Rattle.core_ast.specs.declared.tree.Module.{Module}
@@ -14,13 +14,13 @@ use Rattle.core_sum.specs.Sums.{value}
 use Rattle.core_sum.specs.Form.{main, Exports, IsSumModule, IsFirstUnbuilt}
 use Rattle.core_sum.proofs.Unique.{one_sum, one_place, not_both}
 use Rattle.sum_run.specs.Run.{value_line}
-use Rattle.hipe_top.specs.declared.limits.TheConstants.{TEXT_LIMIT}
-use Rattle.hipe_top.specs.declared.stop.Reason.{Reason}
-use Rattle.hipe_top.specs.declared.stop.Stop.{Stop}
-use Rattle.hipe_top.specs.declared.words.Mode.{Mode}
-use Rattle.hipe_top.specs.declared.words.Mode.TheVariants.{Check, Run}
-use Rattle.hipe_top.specs.Answers.{Answer, refused, answered, not_yet, AnswerOf, too_long, not_read, not_good, good, not_exported, not_built, sum, Expected, bad_words, of_mode}
-use Rattle.hipe_top.specs.Stops.{stop_of_reading}
+use Rattle.hipe_base.specs.declared.limits.TheConstants.{TEXT_LIMIT}
+use Rattle.hipe_stop.specs.declared.stop.Reason.{Reason}
+use Rattle.hipe_stop.specs.declared.stop.Stop.{Stop}
+use Rattle.hipe_top.specs.declared.arguments.Mode.{Mode}
+use Rattle.hipe_top.specs.declared.arguments.Mode.TheVariants.{Check, Run}
+use Rattle.hipe_top.specs.Answers.{Answer, refused, answered, not_yet, AnswerOf, too_long, not_read, not_good, good, not_exported, not_built, sum, Expected, bad_arguments, of_mode}
+use Rattle.hipe_stop.specs.Stops.{stop_of_reading}
 use Rattle.hipe_top.specs.Texts.{IsGoodText, BeginsAt}
 use Rattle.hipe_top.proofs.Placing.{one_beginning}
 use Rattle.hipe_top.proofs.Taking.{one_mode}
@@ -104,8 +104,8 @@ module _ (bytes : List ℕ) where
   answers_agree _ _ b (not_built m p g exported first) x = unbuilt_one m p b g exported first x
   answers_agree _ _ b (sum m e g is ends) x = sum_one m e b g is x
 
-pub one : (words : List (List ℕ)) (bytes : List ℕ) (a b : Answer) → Expected words bytes a → Expected words bytes b → a ≡ b
-one words bytes _ _ (bad_words bad) (bad_words bad2) = refl
-one words bytes _ b (bad_words bad) (of_mode mode is x) = absurd (bad (mode, is))
-one words bytes a _ (of_mode mode is x) (bad_words bad) = absurd (bad (mode, is))
-one words bytes a b (of_mode mode is x) (of_mode other is2 y) = answers_agree bytes mode a b x (subst (λ m. AnswerOf bytes m b) (one_mode other mode (sym is2 ∙ is)) y)
+pub one : (arguments : List (List ℕ)) (bytes : List ℕ) (a b : Answer) → Expected arguments bytes a → Expected arguments bytes b → a ≡ b
+one arguments bytes _ _ (bad_arguments bad) (bad_arguments bad2) = refl
+one arguments bytes _ b (bad_arguments bad) (of_mode mode is x) = absurd (bad (mode, is))
+one arguments bytes a _ (of_mode mode is x) (bad_arguments bad) = absurd (bad (mode, is))
+one arguments bytes a b (of_mode mode is x) (of_mode other is2 y) = answers_agree bytes mode a b x (subst (λ m. AnswerOf bytes m b) (one_mode other mode (sym is2 ∙ is)) y)

@@ -10,15 +10,15 @@ use Rattle.core_reader.specs.Language.{Reads, ReadsNone, IsRefusedAs}
 use Rattle.core_sum.specs.declared.sum.Sum.{Sum}
 use Rattle.core_sum.specs.Sums.{value}
 use Rattle.core_sum.specs.Form.{main, Exports, IsSumModule, IsFirstUnbuilt}
-use Rattle.hipe_top.specs.declared.limits.TheConstants.{TEXT_LIMIT}
-use Rattle.hipe_top.specs.declared.stop.Reason.{Reason}
-use Rattle.hipe_top.specs.declared.stop.Stop.{Stop}
-use Rattle.hipe_top.specs.declared.words.Mode.{Mode}
-use Rattle.hipe_top.specs.declared.words.Mode.TheVariants.{Check, Run}
+use Rattle.hipe_base.specs.declared.limits.TheConstants.{TEXT_LIMIT}
+use Rattle.hipe_stop.specs.declared.stop.Reason.{Reason}
+use Rattle.hipe_stop.specs.declared.stop.Stop.{Stop}
+use Rattle.hipe_top.specs.declared.arguments.Mode.{Mode}
+use Rattle.hipe_top.specs.declared.arguments.Mode.TheVariants.{Check, Run}
 use Rattle.sum_code.specs.Code.{image_for, EndsWith}
 use Rattle.sum_run.specs.Run.{value_line}
-use Rattle.hipe_top.specs.Stops.{status_of, line_of, stop_of_reading}
-use Rattle.hipe_top.specs.Command.{IsCommand, words_of}
+use Rattle.hipe_stop.specs.Stops.{status_of, line_of, stop_of_reading}
+use Rattle.hipe_top.specs.Command.{IsCommand, arguments_of}
 use Rattle.hipe_top.specs.Texts.{IsGoodText, BeginsAt}
 
 -- a status, and the texts on out and err
@@ -47,12 +47,12 @@ pub data AnswerOf (bytes : List ℕ) : Mode → Answer → Type 0 where
   not_built : (m : Module) (p : Place) → IsGoodText bytes m → Exports (module_of m) main → IsFirstUnbuilt (module_of m) p → AnswerOf bytes Run (not_yet p)
   sum : (m : Module) (e : Sum) → IsGoodText bytes m → IsSumModule (module_of m) e → EndsWith (image_for m.name e) (value e) → AnswerOf bytes Run (answered (value_line (value e)))
 
--- the answer to these words and an input of these bytes
-pub data Expected (words : List (List ℕ)) (bytes : List ℕ) : Answer → Type 0 where
-  bad_words : ¬ IsCommand words → Expected words bytes (refused Stop.Words)
-  of_mode : {answer : Answer} (mode : Mode) → words ≡ words_of mode → AnswerOf bytes mode answer → Expected words bytes answer
+-- the answer to these arguments and an input of these bytes
+pub data Expected (arguments : List (List ℕ)) (bytes : List ℕ) : Answer → Type 0 where
+  bad_arguments : ¬ IsCommand arguments → Expected arguments bytes (refused Stop.Arguments)
+  of_mode : {answer : Answer} (mode : Mode) → arguments ≡ arguments_of mode → AnswerOf bytes mode answer → Expected arguments bytes answer
 
--- words and bytes have an answer, and one alone
+-- arguments and bytes have an answer, and one alone
 pub record HaveOneAnswer : Type 0 where
-  pub some : (words : List (List ℕ)) (bytes : List ℕ) → (a : Answer) × Expected words bytes a
-  pub one : (words : List (List ℕ)) (bytes : List ℕ) (a b : Answer) → Expected words bytes a → Expected words bytes b → a ≡ b
+  pub some : (arguments : List (List ℕ)) (bytes : List ℕ) → (a : Answer) × Expected arguments bytes a
+  pub one : (arguments : List (List ℕ)) (bytes : List ℕ) (a b : Answer) → Expected arguments bytes a → Expected arguments bytes b → a ≡ b

@@ -1,13 +1,13 @@
--- The words of the program's commands.
+-- The arguments of the program's commands.
 use Rattle.std.specs.Prelude.{◌≡◌, ℕ, List, [], ◌∷◌, codes}
-use Rattle.hipe_top.specs.declared.words.Mode.{Mode}
-use Rattle.hipe_top.specs.declared.words.Mode.TheVariants.{Check, Run}
+use Rattle.hipe_top.specs.declared.arguments.Mode.{Mode}
+use Rattle.hipe_top.specs.declared.arguments.Mode.TheVariants.{Check, Run}
 
--- the words of each mode: `check`, and `run` with the call `'main'()`
-abbrev pub words_of : Mode → List (List ℕ)
-words_of Check = codes "check" ∷ []
-words_of Run = codes "run" ∷ codes "'main'()" ∷ []
+-- the arguments of each mode: `check`, and `run` with the call `'main'()`
+abbrev pub arguments_of : Mode → List (List ℕ)
+arguments_of Check = codes "check" ∷ []
+arguments_of Run = codes "run" ∷ codes "'main'()" ∷ []
 
--- the words are those of a mode
+-- the arguments are those of a mode
 abbrev pub IsCommand : List (List ℕ) → Type 0
-IsCommand words = (mode : Mode) × (words ≡ words_of mode)
+IsCommand arguments = (mode : Mode) × (arguments ≡ arguments_of mode)

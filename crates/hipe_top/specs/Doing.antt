@@ -2,21 +2,23 @@
 use Rattle.std.specs.Prelude.{ℕ, List, codes, Result, Ok, Err}
 use Rattle.hipe_terms.specs.declared.place.Place.{Place}
 use Rattle.core_ast.specs.declared.tree.Module.{Module}
-use Rattle.core_ast.specs.declared.rule.Rule.{Rule}
+use Rattle.amd64_machine.specs.declared.result.ResultFault.{ResultFault}
+use Rattle.amd64_machine.specs.declared.result.ResultFault.TheVariants as results
 use Rattle.core_ast.specs.Trees.{module_of}
-use Rattle.core_ast.specs.Good.{IsFirstBroken}
-use Rattle.core_reader.specs.declared.refusal.ReadRefusal.{ReadRefusal}
-use Rattle.core_reader.specs.Language.{Reads, ReadsNone, IsRefusedAs}
 use Rattle.core_sum.specs.declared.sum.Sum.{Sum}
 use Rattle.core_sum.specs.Sums.{value}
 use Rattle.core_sum.specs.Form.{main, Exports, IsFirstUnbuilt}
-use Rattle.hipe_top.specs.declared.stop.Reason.{Reason}
-use Rattle.hipe_top.specs.declared.stop.Stop.{Stop}
+use Rattle.hipe_stop.specs.declared.stop.Reason.{Reason}
+use Rattle.hipe_stop.specs.declared.stop.Stop.{Stop}
 use Rattle.sum_code.specs.Code.{image_for, EndsWith}
 use Rattle.sum_run.specs.Run.{value_line}
-use Rattle.hipe_top.specs.Stops.{stop_of_reading}
 use Rattle.hipe_edge.specs.Streams.{Stream, Faulted, Untouched, Gained, GainedPrefix}
 use Rattle.hipe_top.specs.Texts.{BeginsAt}
+
+-- the stop of a run that wrote no whole line
+abbrev pub stop_of_result : ResultFault → Stop
+stop_of_result results.WriteFault = Stop.WriteFault
+stop_of_result results.Memory = Stop.Memory
 
 -- what running a sum came to
 pub data RanSum (name : List ℕ) (e : Sum) (out : Stream) : Result (Unit {0}) Stop → Type 0 where
@@ -27,13 +29,7 @@ pub data RanSum (name : List ℕ) (e : Sum) (out : Stream) : Result (Unit {0}) S
 -- what writing `ok` came to
 pub data WroteOk (out : Stream) : Result (Unit {0}) Stop → Type 0 where
   wrote : Gained out (codes "ok\n") → WroteOk out (Ok tt)
-  wrote_front : Faulted out → GainedPrefix out (codes "ok\n") → WroteOk out (Err Stop.WriteFault)
-
--- why a text has no good module
-pub data IsStop (bytes : List ℕ) : Stop → Type 0 where
-  not_read : (why : ReadRefusal) → ReadsNone bytes → IsRefusedAs bytes why → IsStop bytes (stop_of_reading why)
-  not_good : (m : Module) (rule : Rule) (p : Place) → Reads bytes m → IsFirstBroken (module_of m) rule p → IsStop bytes (Stop.Refused (Reason.Broken rule) p)
-  out_of_memory : IsStop bytes Stop.Memory
+  wrote_prefix : Faulted out → GainedPrefix out (codes "ok\n") → WroteOk out (Err Stop.WriteFault)
 
 -- why a good module has no sum
 pub data IsRunStop (bytes : List ℕ) (m : Module) : Stop → Type 0 where

@@ -1,4 +1,4 @@
--- The first word `module` as the code finds it.
+-- The first keyword `module` as the code finds it.
 use Rattle.std.specs.Prelude.{ℕ, Bool, ◌&&◌, true, false, if◌then◌else◌, List, [], ◌∷◌, Option, Some, None, bytes_eq, codes}
 use Rattle.hipe_terms.specs.declared.place.Place.{Place}
 use Rattle.core_token.specs.declared.token.Sort.{Sort}
@@ -7,16 +7,16 @@ use Rattle.core_token.specs.Text.{bytes_of}
 use Rattle.core_ast.specs.declared.tree.Module.{Module}
 use Rattle.core_reader.specs.Language.{Reads}
 
-abbrev pub is_word : Sort → Bool
-is_word Sort.Word = true
-is_word _ = false
+abbrev pub is_keyword : Sort → Bool
+is_keyword Sort.Word = true
+is_keyword _ = false
 
-abbrev pub is_module_word : List ℕ → Token → Bool
-is_module_word s t = is_word t.sort && bytes_eq (bytes_of s t) (codes "module")
+abbrev pub is_module_keyword : List ℕ → Token → Bool
+is_module_keyword s t = is_keyword t.sort && bytes_eq (bytes_of s t) (codes "module")
 
-abbrev pub first_word : List ℕ → List Token → Option Place
-first_word s [] = None
-first_word s (t ∷ ts) = if is_module_word s t then Some t.at else first_word s ts
+abbrev pub first_keyword : List ℕ → List Token → Option Place
+first_keyword s [] = None
+first_keyword s (t ∷ ts) = if is_module_keyword s t then Some t.at else first_keyword s ts
 
 -- a text reads as a module
 abbrev pub ReadsSome : List ℕ → Type 0

@@ -1,7 +1,6 @@
--- What the program answers to its words and its input, and what the code of a sum is.
+-- What the program answers to its arguments and its input, and what the code of a sum is.
 pub mod Answers
 pub mod Outcome
-pub mod Stops
 pub mod Command
 pub mod Texts
 pub mod Finding

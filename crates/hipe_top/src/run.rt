@@ -1,36 +1,24 @@
 // Doing what a mode does with a text.
-ghost use Rattle.std.specs.Prelude.{◌≡◌, ◌<◌, ◌≤◌, ◌^◌, length, IfOk, IfErr};
+ghost use Rattle.std.specs.Prelude.{◌≡◌, ◌≤◌, length, IfOk, IfErr};
 ghost use Rattle.core_ast.specs.Trees.{module_of};
 ghost use Rattle.core_reader.specs.Language.{Reads};
 ghost use Rattle.core_sum.specs.Sums.{HasSmallIntegers, count_of};
 ghost use Rattle.core_sum.specs.Form.{IsSumModule};
 ghost use Rattle.hipe_edge.specs.Streams.{stream};
 ghost use Rattle.hipe_top.specs.Outcome.{DidText, DidSource};
-ghost use Rattle.hipe_top.specs.Doing.{WroteOk, IsStop, IsRunStop};
+ghost use Rattle.hipe_top.specs.Doing.{WroteOk, IsRunStop, stop_of_result};
 
-use super::limits::TEXT_LIMIT;
+use super::arguments::Mode;
 use super::place::module_place;
-use super::stop::{Reason, Stop};
-use super::words::Mode;
+use amd64_machine::ResultFault;
 use core_ast::GoodModule;
-use core_lint::lint;
-use core_reader::read_module;
 use core_sum::{MOST_INTEGERS, Sum, SumRefusal, sum_of};
+use hipe_base::limits::TEXT_LIMIT;
 use hipe_edge::{Sink, Source, read_all, write_line};
+use hipe_stop::{Reason, Stop, good_module};
 use std::alloc::Global;
 use sum_code::limits::STEPS;
 use sum_run::run_sum;
-
-// The good module of a text.
-fn good_module(alloc: Global, text: &[u8]) -> Result<GoodModule, Stop>
-    requires { length text.now ≤ TEXT_LIMIT }
-    ensures reads { IfOk result (λ good. Reads text.now good.tree) }
-    ensures stop { IfErr result (λ stop. IsStop text.now stop) }
-{
-    let module = read_module(alloc, text)?;
-    let good = lint(alloc, module)?;
-    Ok(good)
-}
 
 // The sum of a good module.
 fn module_sum(alloc: Global, text: &[u8], good: &GoodModule) -> Result<Sum, Stop>
@@ -66,6 +54,16 @@ fn write_ok<O: Sink>(out: &mut O) -> Result<(), Stop>
     Ok(())
 }
 
+// The stop of a run that wrote no whole line.
+fn stop_of_result(fault: ResultFault) -> Stop
+    ensures { result ≡ stop_of_result fault }
+{
+    match fault {
+        ResultFault::WriteFault => Stop::WriteFault,
+        ResultFault::Memory => Stop::Memory,
+    }
+}
+
 // Compiles and runs a good module, and writes the line of its value.
 fn run_module<O: Sink>(
     alloc: Global,
@@ -79,8 +77,10 @@ fn run_module<O: Sink>(
         (stream (O.written out.old) (O.written out.new) (O.faults out.old) (O.faults out.new)) result }
 {
     let sum = module_sum(alloc, text, good)?;
-    run_sum(alloc, &good.tree.name, &sum, STEPS, out)?;
-    Ok(())
+    match run_sum(alloc, &good.tree.name, &sum, STEPS, out) {
+        Ok(()) => Ok(()),
+        Err(fault) => Err(stop_of_result(fault)),
+    }
 }
 
 // Does what the mode does with a text.

@@ -1,7 +1,8 @@
 // The whole program in memory: worked texts, refusals, and calls that fail.
 use super::top::hipe_alone;
+use hipe_base::Memory;
 use hipe_edge::{CountSink, MemSink, MemSource, SureSource};
-use std::alloc::{AllocError, Global};
+use std::alloc::Global;
 use std::process::Abort;
 use std::test::Fail;
 
@@ -15,23 +16,23 @@ struct Seen {
     err: Vec<u8>,
 }
 
-// The words of a command.
-fn command(alloc: Global, words: &[&str]) -> Result<Vec<String>, AllocError> {
+// The arguments of a command.
+fn command(alloc: Global, arguments: &[&str]) -> Result<Vec<String>, Memory> {
     let mut all = Vec::new(alloc);
-    for word in words {
-        all.push(String::from_str(alloc, word)?)?;
+    for argument in arguments {
+        all.push(String::from_str(alloc, argument)?)?;
     }
     Ok(all)
 }
 
 // Calls the program on a text, with the numbers of the calls that fail on the source, on out and on err.
-fn call(alloc: Global, words: &[&str], text: &str, fails: [&[u64]; 3]) -> Result<Seen, AllocError> {
-    let words = command(alloc, words)?;
+fn call(alloc: Global, arguments: &[&str], text: &str, fails: [&[u64]; 3]) -> Result<Seen, Memory> {
+    let arguments = command(alloc, arguments)?;
     let bytes = Vec::from_slice(alloc, text.as_bytes())?;
     let mut source = MemSource::new(bytes, Vec::from_slice(alloc, fails[0])?);
     let mut out = MemSink::new(alloc, 100, Vec::from_slice(alloc, fails[1])?)?;
     let mut err = MemSink::new(alloc, 100, Vec::from_slice(alloc, fails[2])?)?;
-    let status = hipe_alone(alloc, &words, &mut source, &mut out, &mut err);
+    let status = hipe_alone(alloc, &arguments, &mut source, &mut out, &mut err);
     Ok(Seen {
         status,
         out: Vec::from_slice(alloc, out.bytes())?,
@@ -52,7 +53,7 @@ fn assert_text(
     text: &str,
     checked: (u8, &str, &str),
     ran: (u8, &str, &str),
-) -> Result<(), AllocError> {
+) -> Result<(), Memory> {
     let seen = call(alloc, &["check"], text, [&[], &[], &[]])?;
     assert_seen(rt, &seen, checked.0, checked.1, checked.2);
     let seen = call(alloc, &["run", "'main'()"], text, [&[], &[], &[]])?;
@@ -67,7 +68,7 @@ fn assert_body(
     body: &str,
     checked: (u8, &str, &str),
     ran: (u8, &str, &str),
-) -> Result<(), AllocError> {
+) -> Result<(), Memory> {
     let text = format!(in alloc; "{BEFORE}{body} end")?;
     assert_text(rt, alloc, text.as_str(), checked, ran)
 }
@@ -152,28 +153,28 @@ fn places_of_modules(rt: HostRuntime) -> Result<(), Fail> {
 }
 
 #[test]
-fn words_and_inputs_are_refused(rt: HostRuntime) -> Result<(), Fail> {
+fn arguments_and_inputs_are_refused(rt: HostRuntime) -> Result<(), Fail> {
     let alloc = rt.alloc();
-    for words in [
+    for arguments in [
         ["run"].as_slice(),
         &["run", "'main'()", "x"],
         &["check", "'main'()"],
         &["run", "main()"],
         &[],
     ] {
-        let seen = call(alloc, words, "", [&[], &[], &[]])?;
+        let seen = call(alloc, arguments, "", [&[], &[], &[]])?;
         assert_seen(&rt, &seen, 2, "", "hipe: words\n");
     }
     for (spaces, err) in [
         (16_777_216, "hipe: syntax 1:16777217\n"),
         (16_777_217, "hipe: too_long\n"),
     ] {
-        let words = command(alloc, &["check"])?;
+        let arguments = command(alloc, &["check"])?;
         let mut source = SureSource::new(vec![in alloc; b' '; spaces]?);
         let mut out = CountSink::new();
         let mut line = MemSink::new(alloc, 100, Vec::new(alloc))?;
         assert_eq!(rt;
-            hipe_alone(alloc, &words, &mut source, &mut out, &mut line),
+            hipe_alone(alloc, &arguments, &mut source, &mut out, &mut line),
             3
         );
         assert_eq!(rt; out.count(), 0);

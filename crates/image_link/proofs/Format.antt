@@ -9,7 +9,7 @@ use Rattle.std.proofs.lemmas.List.Concat.{length-flat_map}
 use Rattle.std.proofs.lemmas.Option.{slice_get_within}
 use Rattle.std.proofs.lemmas.Str.{encodes-chars, length-encode, len_utf8_bounds, IsUtf8-string_bytes}
 use Rattle.std.specs.Prelude.{Option, None, Some}
-use Rattle.hipe_terms.specs.declared.limits.TheConstants.{ATOM_LIMIT}
+use Rattle.hipe_base.specs.declared.limits.TheConstants.{ATOM_LIMIT}
 use Rattle.image_link.specs.declared.names.FunctionEntry.{FunctionEntry}
 use Rattle.image_link.specs.declared.image.Function.{Function}
 use Rattle.image_link.specs.Atoms.{atoms_of, points_of}

@@ -10,7 +10,7 @@ use Rattle.image_link.specs.declared.code.Code.{Code}
 use Rattle.image_link.specs.declared.code.CallSite.{CallSite}
 use Rattle.image_link.specs.declared.names.FunctionEntry.{FunctionEntry}
 use Rattle.image_link.specs.declared.image.Function.{Function}
-use Rattle.image_link.specs.declared.limits.TheConstants.{CODE_LIMIT}
+use Rattle.hipe_base.specs.declared.limits.TheConstants.{CODE_LIMIT}
 use Rattle.image_link.specs.Code.{FIELD, IsCallIn, IsPart, exit_bytes}
 use Rattle.image_link.specs.Image.{IsImage, entry_of}
 use Rattle.image_link.specs.Linking.{code_from, code_size, displacement, filled, functions_from, linked, linked_part, placed, replaced, size, start_of, starts_of}
@@ -40,14 +40,14 @@ starts_within parts fits = λ k d below.
     omega (arith, start_at parts k d number, start_within parts k, fits)
 
 -- bytes behind others
-pub replaced_behind : (front bytes : List ℕ) (at : ℕ) (new : List ℕ)
-    → replaced (front ++ bytes) (length front + at) new ≡ front ++ replaced bytes at new
-replaced_behind front bytes at new =
-    ap (λ t. t ++ new ++ drop (length front + at + length new) (front ++ bytes)) (take-append-add front bytes at)
-    ∙ ap (λ n. (front ++ take at bytes) ++ new ++ drop n (front ++ bytes)) (add_assoc (length front) at (length new))
-    ∙ ap (λ r. (front ++ take at bytes) ++ new ++ r) (drop-append-add front bytes (at + length new))
-    ∙ ap (λ l. l ++ drop (at + length new) bytes) (append_assoc front (take at bytes) new)
-    ∙ append_assoc front (take at bytes ++ new) (drop (at + length new) bytes)
+pub replaced_behind : (prefix bytes : List ℕ) (at : ℕ) (new : List ℕ)
+    → replaced (prefix ++ bytes) (length prefix + at) new ≡ prefix ++ replaced bytes at new
+replaced_behind prefix bytes at new =
+    ap (λ t. t ++ new ++ drop (length prefix + at + length new) (prefix ++ bytes)) (take-append-add prefix bytes at)
+    ∙ ap (λ n. (prefix ++ take at bytes) ++ new ++ drop n (prefix ++ bytes)) (add_assoc (length prefix) at (length new))
+    ∙ ap (λ r. (prefix ++ take at bytes) ++ new ++ r) (drop-append-add prefix bytes (at + length new))
+    ∙ ap (λ l. l ++ drop (at + length new) bytes) (append_assoc prefix (take at bytes) new)
+    ∙ append_assoc prefix (take at bytes ++ new) (drop (at + length new) bytes)
 
 pub replaced_length : (bytes : List ℕ) (at : ℕ) (new : List ℕ) → at + length new ≤ length bytes → length (replaced bytes at new) ≡ length bytes
 replaced_length bytes at new fits =
@@ -85,12 +85,12 @@ pub part_length : (starts : List ℕ) (start functions : ℕ) (part : Code) → 
 part_length starts start functions part is = all_filled starts start functions part.bytes part.calls is.calls
 
 -- one more call filled
-pub call_filled : (front bytes starts : List ℕ) (calls items : List CallSite) (k : ℕ) (d : CallSite) (start : ℕ) (before now : List ℕ)
-    → k < length items → items ≡ calls → start ≡ length front → before ≡ front ++ fold (filled starts start) bytes (take k calls)
+pub call_filled : (prefix bytes starts : List ℕ) (calls items : List CallSite) (k : ℕ) (d : CallSite) (start : ℕ) (before now : List ℕ)
+    → k < length items → items ≡ calls → start ≡ length prefix → before ≡ prefix ++ fold (filled starts start) bytes (take k calls)
     → now ≡ replaced before (start + (get_or items k d).at)
     (displacement (start + (get_or items k d).at + FIELD) (get_or starts (get_or items k d).target 0))
-    → now ≡ front ++ fold (filled starts start) bytes (take (k + 1) calls)
-call_filled front bytes starts calls items k d start before now below same begin was is =
+    → now ≡ prefix ++ fold (filled starts start) bytes (take (k + 1) calls)
+call_filled prefix bytes starts calls items k d start before now below same begin was is =
     let call : CallSite = get_or calls k d in
     let new : List ℕ = displacement (start + call.at + FIELD) (get_or starts call.target 0) in
     let filled_so_far : List ℕ = fold (filled starts start) bytes (take k calls) in
@@ -98,9 +98,9 @@ call_filled front bytes starts calls items k d start before now below same begin
     ∙ ap (λ (cs : List CallSite). replaced before (start + (get_or cs k d).at)
     (displacement (start + (get_or cs k d).at + FIELD) (get_or starts (get_or cs k d).target 0))) same
     ∙ ap (λ b. replaced b (start + call.at) new) was
-    ∙ ap (λ n. replaced (front ++ filled_so_far) (n + call.at) new) begin
-    ∙ replaced_behind front filled_so_far call.at new
-    ∙ ap (λ b. front ++ b) (sym (fold_more (filled starts start) bytes calls k d (subst (λ (cs : List CallSite). k < length cs) same below)))
+    ∙ ap (λ n. replaced (prefix ++ filled_so_far) (n + call.at) new) begin
+    ∙ replaced_behind prefix filled_so_far call.at new
+    ∙ ap (λ b. prefix ++ b) (sym (fold_more (filled starts start) bytes calls k d (subst (λ (cs : List CallSite). k < length cs) same below)))
 
 -- a filled call keeps the length
 pub call_keeps : (before now : List ℕ) (calls items : List CallSite) (k : ℕ) (d : CallSite) (start size functions : ℕ) (new : List ℕ)
@@ -189,20 +189,20 @@ entries_same parts [] k (f ∷ fs) same = let no : ⊥ = omega (arith, same) in 
 entries_same parts (part ∷ rest) k (f ∷ fs) same = ap (λ gs. f ∷ gs) (entries_same parts rest (k + 1) fs (omega (arith, same)))
 
 -- the closure entries lie in the code
-entries_within : (parts front rest : List Code) (fs : List FunctionEntry) (functions : ℕ) → parts ≡ front ++ rest → All (IsPart functions) rest
-    → All (λ f. f.closure_entry < code_size parts) (functions_from parts (length front) fs rest)
-entries_within parts front rest [] functions is are = All-nil (λ f. f.closure_entry < code_size parts)
-entries_within parts front [] (f ∷ fs) functions is are = All-nil (λ f. f.closure_entry < code_size parts)
-entries_within parts front (part ∷ rest) (f ∷ fs) functions is are =
-    let number : length front < length parts = omega (arith, ap length is, length-append front (part ∷ rest)) in
-    let here : get_or parts (length front) part ≡ part = ap (λ p. get_or p (length front) part) is ∙ get_or-append_seam front part rest part in
-    let first : start_of parts (length front) + part.closure_entry < code_size parts =
-    omega (arith, part_within parts (length front) part number, ap size here, (All-head (IsPart functions) part rest are).entry) in
-    let next : length (front ++ part ∷ []) ≡ length front + 1 = length-append front (part ∷ []) in
+entries_within : (parts prefix rest : List Code) (fs : List FunctionEntry) (functions : ℕ) → parts ≡ prefix ++ rest → All (IsPart functions) rest
+    → All (λ f. f.closure_entry < code_size parts) (functions_from parts (length prefix) fs rest)
+entries_within parts prefix rest [] functions is are = All-nil (λ f. f.closure_entry < code_size parts)
+entries_within parts prefix [] (f ∷ fs) functions is are = All-nil (λ f. f.closure_entry < code_size parts)
+entries_within parts prefix (part ∷ rest) (f ∷ fs) functions is are =
+    let number : length prefix < length parts = omega (arith, ap length is, length-append prefix (part ∷ rest)) in
+    let here : get_or parts (length prefix) part ≡ part = ap (λ p. get_or p (length prefix) part) is ∙ get_or-append_seam prefix part rest part in
+    let first : start_of parts (length prefix) + part.closure_entry < code_size parts =
+    omega (arith, part_within parts (length prefix) part number, ap size here, (All-head (IsPart functions) part rest are).entry) in
+    let next : length (prefix ++ part ∷ []) ≡ length prefix + 1 = length-append prefix (part ∷ []) in
     let P : List Function → Type 0 = All (λ f. f.closure_entry < code_size parts) in
-    All-cons (λ f. f.closure_entry < code_size parts) (placed f (start_of parts (length front)) part) (functions_from parts (length front + 1) fs rest) first
+    All-cons (λ f. f.closure_entry < code_size parts) (placed f (start_of parts (length prefix)) part) (functions_from parts (length prefix + 1) fs rest) first
     (subst (λ n. P (functions_from parts n fs rest)) next
-    (entries_within parts (front ++ part ∷ []) rest fs functions (is ∙ sym (append_assoc front (part ∷ []) rest)) (All-tail (IsPart functions) part rest are)))
+    (entries_within parts (prefix ++ part ∷ []) rest fs functions (is ∙ sym (append_assoc prefix (part ∷ []) rest)) (All-tail (IsPart functions) part rest are)))
 
 -- the image keeps the rules of its fields
 pub linked_rules : (parts : List Code) (n : ProgramNames) → length parts ≡ length n.functions → All (IsPart (length n.functions)) parts

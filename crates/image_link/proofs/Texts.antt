@@ -14,7 +14,7 @@ use Rattle.std.proofs.lemmas.List.Folds.{fold-map}
 use Rattle.std.proofs.lemmas.List.Sums.{AllPass-from_list_all}
 use Rattle.std.proofs.lemmas.Option.{slice_get-map}
 use Rattle.std.proofs.Common.{append_assoc, length-append}
-use Rattle.hipe_terms.specs.declared.limits.TheConstants.{ATOM_LIMIT}
+use Rattle.hipe_base.specs.declared.limits.TheConstants.{ATOM_LIMIT}
 use Rattle.image_link.specs.Atoms.{Atoms, IsAtomTable, all_interned, first_atoms, atoms_of, interned, number_in, number_of, points_of}
 
 -- two texts are equal exactly where their code points are

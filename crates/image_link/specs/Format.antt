@@ -3,7 +3,7 @@ use Rattle.std.specs.Prelude.{◌+◌, ◌++◌, ℕ, List, codes, encode_utf8_a
 use Rattle.std.specs.Int.{w16, w32, w64, to_le_bytes}
 use Rattle.sha2.specs.Sha256.{sha256}
 use Rattle.image_link.specs.declared.image.Function.{Function}
-use Rattle.image_link.specs.declared.limits.TheConstants.{NO_NAME, VERSION}
+use Rattle.image_link.specs.declared.numbers.TheConstants.{NO_NAME, VERSION}
 use Rattle.image_link.specs.Image.{ProgramImage}
 
 -- numbers of two, four and eight bytes, the lowest byte first

@@ -2,7 +2,7 @@
 use Rattle.std.specs.Prelude.{◌<◌, ◌≤◌, ℕ, List, All, length, map}
 use Rattle.image_link.specs.declared.names.FunctionEntry.{FunctionEntry}
 use Rattle.image_link.specs.declared.image.Function.{Function}
-use Rattle.image_link.specs.declared.limits.TheConstants.{CODE_LIMIT}
+use Rattle.hipe_base.specs.declared.limits.TheConstants.{CODE_LIMIT}
 use Rattle.image_link.specs.Atoms.{Atoms}
 use Rattle.image_link.specs.Names.{ProgramNames, AreNames}
 

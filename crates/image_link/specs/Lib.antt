@@ -4,3 +4,4 @@ pub mod Code
 pub mod Image
 pub mod Linking
 pub mod Format
+pub mod Fields

@@ -6,7 +6,7 @@ use Rattle.image_link.specs.declared.code.Code.{Code}
 use Rattle.image_link.specs.declared.code.CallSite.{CallSite}
 use Rattle.image_link.specs.declared.names.FunctionEntry.{FunctionEntry}
 use Rattle.image_link.specs.declared.image.Function.{Function}
-use Rattle.image_link.specs.declared.limits.TheConstants.{CODE_LIMIT}
+use Rattle.hipe_base.specs.declared.limits.TheConstants.{CODE_LIMIT}
 use Rattle.image_link.specs.declared.linking.LinkFault.{LinkFault}
 use Rattle.image_link.specs.declared.linking.LinkFault.TheVariants.{TooLarge, Memory}
 use Rattle.image_link.specs.Code.{FIELD, exit_bytes}

@@ -5,11 +5,11 @@ ghost use Rattle.std.specs.List.{IsDistinct};
 ghost use Rattle.std.specs.Option.{option_copied};
 ghost use Rattle.image_link.specs.Atoms.{Atoms, IsAtomTable, all_interned, atoms_of, first_atoms, interned, number_in, number_of};
 
+use hipe_base::Memory;
+use hipe_base::limits::ATOM_LIMIT;
 use hipe_terms::Atom;
-use hipe_terms::limits::ATOM_LIMIT;
-use hipe_terms::text::Memory;
 use indexmap::IndexSet;
-use std::alloc::{AllocError, Global};
+use std::alloc::Global;
 use std::marker::Model;
 
 // The atoms of every program, in the order of their numbers.
@@ -109,7 +109,7 @@ impl AtomTable {
         atom.keeps_limit();
         let at = self.len();
         if at == u32::MAX {
-            return Err(AllocError);
+            return Err(Memory);
         }
         insert(alloc, &mut self.texts, atom.as_str())?;
         Ok(at)

@@ -5,8 +5,8 @@ ghost use Rattle.image_link.specs.Format.{atom_bytes, bytes_of, eight, four, fun
 
 use crate::atoms::AtomTable;
 use crate::image::{Function, Image};
-use crate::limits::{NO_NAME, VERSION};
-use hipe_terms::text::Memory;
+use crate::numbers::{NO_NAME, VERSION};
+use hipe_base::Memory;
 use sha2::{Digest, Sha256};
 use std::alloc::Global;
 

@@ -5,7 +5,7 @@ ghost use Rattle.amd64_form.specs.Encoding.{encoding};
 ghost use Rattle.image_link.specs.Code.{exit_bytes};
 
 use amd64_form::{Inst, Reg, ShiftCount, ShiftOp, encode};
-use hipe_terms::text::Memory;
+use hipe_base::Memory;
 use sqlite_items::Items;
 
 /// A call in the code of a function, whose displacement is filled by `link`.

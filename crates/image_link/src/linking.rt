@@ -6,9 +6,10 @@ ghost use Rattle.image_link.specs.Linking.{IsLinked, code_from, code_size, displ
 
 use crate::code::{CallSite, Code, put_exit};
 use crate::image::{Function, Image};
-use crate::limits::{CODE_LIMIT, EXIT_SIZE};
 use crate::names::{FunctionEntry, Names};
-use hipe_terms::text::Memory;
+use crate::numbers::EXIT_SIZE;
+use hipe_base::Memory;
+use hipe_base::limits::CODE_LIMIT;
 use std::alloc::Global;
 
 /// Why a program has no image.

@@ -5,9 +5,9 @@ ghost use Rattle.image_link.specs.Atoms.{number_in};
 ghost use Rattle.image_link.specs.Names.{AreNames, IsDefinition, IsEntry, NamesDefinition, names_for, with_atom, with_export, with_function};
 
 use crate::atoms::AtomTable;
+use hipe_base::Memory;
 use hipe_terms::Atom;
-use hipe_terms::text::Memory;
-use std::alloc::{AllocError, Global};
+use std::alloc::Global;
 use std::marker::Model;
 
 /// A function of a program.
@@ -125,7 +125,7 @@ impl Names {
     {
         let number = self.functions.len();
         if number >= u32::MAX as usize {
-            return Err(AllocError);
+            return Err(Memory);
         }
         self.functions.push(function)?;
         Ok(number as u32)

@@ -15,12 +15,20 @@
 // where there is no such atom.
 //
 // The lines of `stdin` and `stdout` are made by `table`, which writes the format by its rules.
+//
+// Promises: nothing.
+//
+// May touch: memory, standard input and output.
+//
+// Files:
+//   conditions.rt   what the calls of `image_link` require, as tests
+//   program.rt      a program that is read from lines
 #![tactic(auto)]
 
 mod conditions;
 mod program;
 
-use program::{Answer, Program, front, numbered};
+use program::{Answer, Program, first_and_rest, numbered};
 use std::alloc::Global;
 
 // Begins a program.
@@ -35,7 +43,7 @@ fn begun(alloc: Global, kept: &mut Option<Program>, name: &str) -> Answer {
 
 // The answer to a line, where it isn't refused.
 fn answered(alloc: Global, kept: &mut Option<Program>, line: &str) -> Answer {
-    let (command, rest) = front(line);
+    let (command, rest) = first_and_rest(line);
     if command == "module" {
         return begun(alloc, kept, rest);
     }

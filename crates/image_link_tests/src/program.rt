@@ -1,8 +1,9 @@
 // A program that is read from lines.
 
 use crate::conditions::{are_definitions, can_export, can_link};
+use hipe_base::Memory;
 use hipe_terms::Atom;
-use image_link::{CallSite, Code, Image, LinkFault, Memory, Names, image_bytes, link};
+use image_link::{CallSite, Code, Image, LinkFault, Names, image_bytes, link};
 use sqlite_items::Items;
 use std::alloc::Global;
 
@@ -10,7 +11,7 @@ use std::alloc::Global;
 pub type Answer = anyhow::Result<Option<String>>;
 
 /// The first word of a text, and the rest behind the blank.
-pub(crate) fn front(text: &str) -> (&str, &str) {
+pub(crate) fn first_and_rest(text: &str) -> (&str, &str) {
     match text.split_once(" ") {
         Some(parts) => parts,
         None => (text, ""),
@@ -50,8 +51,8 @@ fn calls(alloc: Global, words: &str) -> Result<Option<Items<CallSite>>, Memory> 
 
 // The code of these words.
 fn code(alloc: Global, words: &str) -> anyhow::Result<Option<Code>> {
-    let (entry, words) = front(words);
-    let (digits, words) = front(words);
+    let (entry, words) = first_and_rest(words);
+    let (digits, words) = first_and_rest(words);
     let (Ok(closure_entry), Some(calls)) = (entry.parse::<u32>(), calls(alloc, words)?) else {
         return Ok(None);
     };
@@ -130,8 +131,8 @@ impl Program {
 
     /// Adds a definition of the module.
     pub(crate) fn definition(&mut self, alloc: Global, words: &str) -> Answer {
-        let (name, words) = front(words);
-        let (arity, words) = front(words);
+        let (name, words) = first_and_rest(words);
+        let (arity, words) = first_and_rest(words);
         let (Some(name), Ok(arity)) = (atom(alloc, name)?, arity.parse::<u8>()) else {
             return Ok(None);
         };
@@ -149,8 +150,8 @@ impl Program {
 
     /// Adds a fun.
     pub(crate) fn fun(&mut self, alloc: Global, words: &str) -> Answer {
-        let (arity, words) = front(words);
-        let (captured, words) = front(words);
+        let (arity, words) = first_and_rest(words);
+        let (captured, words) = first_and_rest(words);
         let (Ok(arity), Ok(captured)) = (arity.parse::<u8>(), captured.parse::<u16>()) else {
             return Ok(None);
         };

@@ -41,9 +41,13 @@ abbrev pub definitions_of : Atoms → List Function → Names
 definitions_of atoms [] = []
 definitions_of atoms (f ∷ fs) = definition_before atoms f.name f.arity (definitions_of atoms fs)
 
+-- the symbols of a program with these atoms and functions, and of a call with these arguments
+abbrev pub symbols_of_call : Atoms → List Function → List Constant → Symbols
+symbols_of_call atoms functions args =
+    record { atoms = all_interned (map with_atoms_of args) atoms; definitions = definitions_of atoms functions; functions = length functions }
+
 abbrev pub symbols_for : ProgramImage → List Constant → Symbols
-symbols_for image args =
-    record { atoms = all_interned (map with_atoms_of args) image.atoms; definitions = definitions_of image.atoms image.functions; functions = length image.functions }
+symbols_for image args = symbols_of_call image.atoms image.functions args
 
 -- ---- memory
 

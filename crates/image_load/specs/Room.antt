@@ -1,6 +1,6 @@
 -- How much room is left.
 use Rattle.std.specs.Prelude.{◌≡◌, ◌≤◌, ◌-◌, ℕ, List, Option, Some, None, nat_le, if◌then◌else◌, encode_utf8_all, length}
-use Rattle.hipe_terms.specs.declared.limits.TheConstants.{ATOM_LIMIT}
+use Rattle.hipe_base.specs.declared.limits.TheConstants.{ATOM_LIMIT}
 
 -- what is left of so many words behind so many more, where they are enough
 abbrev pub left : ℕ → ℕ → Option ℕ

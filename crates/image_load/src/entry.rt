@@ -1,6 +1,7 @@
 // The function of a call.
 
 ghost use Rattle.std.specs.Prelude.{◌≡◌, ◌≤◌, IfSome, length, slice_get, true};
+ghost use Rattle.hipe_base.specs.declared.limits.TheConstants.{ARITY_LIMIT};
 ghost use Rattle.image_load.specs.Entry.{has_number, is_numbered, exported_numbered};
 ghost use Rattle.image_load.specs.Loading.{exported};
 
@@ -20,7 +21,7 @@ fn has_number(number: u32, name: Option<u32>) -> bool
 // Whether a function has the name of this number and so many arguments.
 fn is_numbered(number: u32, arity: usize, function: Option<Function>) -> bool
     ensures numbered { result ≡ is_numbered number arity function }
-    ensures few { result ≡ true → arity ≤ 255 }
+    ensures few { result ≡ true → arity ≤ ARITY_LIMIT }
 {
     match function {
         None => false,
@@ -43,7 +44,7 @@ fn exported_numbered(
     exports: &[u32],
 ) -> Option<Function>
     ensures first { result ≡ exported_numbered functions.now number arity exports.now }
-    ensures few { IfSome result (λ f. arity ≤ 255) }
+    ensures few { IfSome result (λ f. arity ≤ ARITY_LIMIT) }
 {
     for export in exports {
         let function = function_at(functions, *export);
@@ -57,7 +58,7 @@ fn exported_numbered(
 // The first exported function that has the name and the number of arguments of the call.
 pub(crate) fn exported(image: &Image, call: &Call) -> Option<Function>
     ensures first { result ≡ exported image.now call.now.name (length call.now.args) image.now.exports }
-    ensures few { IfSome result (λ f. length call.now.args ≤ 255) }
+    ensures few { IfSome result (λ f. length call.now.args ≤ ARITY_LIMIT) }
 {
     image.rules();
     let number = image.atoms().number(&call.name)?;

@@ -1,8 +1,10 @@
 // Putting an image and the constants of a call into memory.
 //
-// Promised here: `load_program` gives exactly what the definition `loaded` says: the symbols of the program and of the call, the
+// Promises: `load_program` gives exactly what the definition `loaded` says: the symbols of the program and of the call, the
 // memory before the first instruction, and where the run begins; or that the call isn't exported, or that its constants don't fit
 // the heap.
+//
+// May touch: memory alone.
 //
 // Files:
 //   entry.rt     the function of a call

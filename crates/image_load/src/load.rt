@@ -1,6 +1,7 @@
 // From an image and a call to a program in memory.
 ghost use Rattle.std.specs.Prelude.{◌≡◌, ◌≤◌, length, IfOk, IfSome, All};
-ghost use Rattle.region_memory.specs.declared.layout.TheConstants.{FUNCTION_LIMIT};
+ghost use Rattle.hipe_base.specs.declared.limits.TheConstants.{ARITY_LIMIT};
+ghost use Rattle.region_memory.specs.declared.layout.TheConstants.{TABLE_LIMIT};
 ghost use Rattle.hipe_terms.specs.Constants.{AreConstants, IsConstant};
 ghost use Rattle.heap_terms.specs.Seen.{symbols_of};
 ghost use Rattle.image_load.specs.Loading.{begun, loaded};
@@ -11,11 +12,12 @@ use crate::memory::{first_four, fit, put_call, table_of};
 use crate::numbers::TableNumbers;
 use crate::symbols::symbols_for;
 use heap_terms::{Symbols, build_each};
+use hipe_base::Memory;
 use hipe_terms::{Call, Constant};
 use image_link::{AtomTable, Function, Image, ImageParts};
 use region_memory::Region;
 use region_memory::layout::CODE_BEGIN;
-use std::alloc::{AllocError, Global};
+use std::alloc::Global;
 
 /// How a run begins.
 #[derive(Clone, Copy, Debug, PartialEq, Eq)]
@@ -30,7 +32,7 @@ pub enum Start {
         at: u64,
         /// The words of the first four arguments, 0 where there are fewer.
         arguments: [u64; 4],
-        /// The address of the heap's free place, which is behind the words that were built.
+        /// The heap pointer: the address behind the words that were built.
         free: u64,
     },
 }
@@ -52,16 +54,16 @@ pub struct Loaded {
 ///
 /// # Errors
 ///
-/// `AllocError` where there was no memory for the symbols, the function table or the constants.
+/// `Memory` where there was no memory for the symbols, the function table or the constants.
 #[tactic(auto, unfolding(crate::specs::Loading::loaded))]
 pub fn load_program(
     alloc: Global,
     image: Image,
     call: &Call,
     region: Region,
-) -> Result<Loaded, AllocError>
+) -> Result<Loaded, Memory>
     requires constants { All IsConstant call.now.args }
-    requires functions { length image.functions ≤ FUNCTION_LIMIT }
+    requires functions { length image.functions ≤ TABLE_LIMIT }
     ensures { IfOk result (λ l. loaded_seen l ≡ loaded image call.now region) }
 {
     image.rules();
@@ -98,9 +100,9 @@ fn begin(
     mut region: Region,
     args: &[Constant],
     function: Option<Function>,
-) -> Result<Loaded, AllocError>
+) -> Result<Loaded, Memory>
     requires constants { AreConstants args.now }
-    requires few { IfSome function (λ f. length args.now ≤ 255) }
+    requires few { IfSome function (λ f. length args.now ≤ ARITY_LIMIT) }
     requires table { table.now ≡ symbols.atoms.items }
     ensures { IfOk result (λ l. loaded_seen l ≡ begun (symbols_of symbols) region args.now function) }
 {

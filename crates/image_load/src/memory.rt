@@ -1,18 +1,20 @@
 // The words of a program and of a call.
 
 ghost use Rattle.std.specs.Prelude.{◌≡◌, ◌≤◌, IfOk, get_or, length, map, nat_le, sum};
+ghost use Rattle.hipe_base.specs.declared.limits.TheConstants.{ARITY_LIMIT};
 ghost use Rattle.hipe_terms.specs.Words.{words_of};
 ghost use Rattle.image_load.specs.Loading.{table_of, with_call, first_four};
 ghost use Rattle.image_load.specs.Room.{left};
 
+use hipe_base::Memory;
 use hipe_terms::Constant;
 use image_link::Function;
 use region_memory::Region;
 use region_memory::layout::CODE_BEGIN;
-use std::alloc::{AllocError, Global};
+use std::alloc::Global;
 
 // The function table: for each function the address of its closure entry, and its arity.
-pub(crate) fn table_of(alloc: Global, functions: &[Function]) -> Result<Vec<u64>, AllocError>
+pub(crate) fn table_of(alloc: Global, functions: &[Function]) -> Result<Vec<u64>, Memory>
     ensures { IfOk result (λ table. table.items ≡ table_of functions.now) }
 {
     let mut table = Vec::new(alloc);
@@ -86,7 +88,7 @@ pub(crate) fn first_four(words: &[u64]) -> [u64; 4]
 
 // Puts a call into memory: the words that its constants were built with, the words of its arguments, and the exit part's address.
 pub(crate) fn put_call(region: &mut Region, arguments: &[u64], words: &[u64])
-    requires few { length arguments.now ≤ 255 }
+    requires few { length arguments.now ≤ ARITY_LIMIT }
     requires fits { length words.now ≤ length region.old.heap }
     ensures { region.new ≡ with_call (arguments.now, words.now) region.old }
 {

@@ -4,18 +4,19 @@ ghost use Rattle.std.specs.Prelude.{◌≡◌, ◌<◌, [], All, IfOk, OnOk, enc
 ghost use Rattle.image_link.specs.Image.{entry_of};
 ghost use Rattle.image_link.specs.Names.{IsEntry};
 ghost use Rattle.heap_terms.specs.Seen.{symbols_of, name_of};
-ghost use Rattle.image_load.specs.Loading.{all_interned, with_atoms_of, definitions_of};
+ghost use Rattle.image_load.specs.Loading.{all_interned, with_atoms_of, definitions_of, symbols_of_call};
 ghost use Rattle.image_load.specs.Room.{IsAtomText};
 
 use heap_terms::{DefinitionName, Symbols};
+use hipe_base::Memory;
 use hipe_terms::{Atom, Constant};
 use image_link::{AtomTable, Function};
-use std::alloc::{AllocError, Global};
+use std::alloc::Global;
 
 // Interns the atoms of a constant, from left to right.
 #[cycle(intern)]
 #[tactic(auto, using(crate::proofs::Levels::levels))]
-fn intern(alloc: Global, c: &Constant, atoms: &mut AtomTable) -> Result<(), AllocError>
+fn intern(alloc: Global, c: &Constant, atoms: &mut AtomTable) -> Result<(), Memory>
     ensures { OnOk result (atoms.new ≡ with_atoms_of c.now atoms.old) }
 {
     match c {
@@ -35,7 +36,7 @@ fn intern(alloc: Global, c: &Constant, atoms: &mut AtomTable) -> Result<(), Allo
 
 #[cycle(intern)]
 #[tactic(auto, using(crate::proofs::Levels::levels))]
-fn intern_each(alloc: Global, parts: &[Constant], atoms: &mut AtomTable) -> Result<(), AllocError>
+fn intern_each(alloc: Global, parts: &[Constant], atoms: &mut AtomTable) -> Result<(), Memory>
     ensures { OnOk result (atoms.new ≡ all_interned (map with_atoms_of parts.now) atoms.old) }
 {
     for part in parts {
@@ -45,7 +46,7 @@ fn intern_each(alloc: Global, parts: &[Constant], atoms: &mut AtomTable) -> Resu
 }
 
 // The atom of a text.
-fn atom_of(alloc: Global, text: &str) -> Result<Atom, AllocError>
+fn atom_of(alloc: Global, text: &str) -> Result<Atom, Memory>
     requires { IsAtomText text.now }
     ensures { IfOk result (λ a. encode_utf8_all a ≡ text.now) }
 {
@@ -56,7 +57,7 @@ fn atom_of(alloc: Global, text: &str) -> Result<Atom, AllocError>
 }
 
 // The atom with this number.
-fn atom_at(alloc: Global, table: &AtomTable, number: u32) -> Result<Atom, AllocError>
+fn atom_at(alloc: Global, table: &AtomTable, number: u32) -> Result<Atom, Memory>
     requires { number < length table.now }
     ensures { IfOk result (λ a. a ≡ get_or table.now number []) }
 {
@@ -68,7 +69,7 @@ fn atom_at(alloc: Global, table: &AtomTable, number: u32) -> Result<Atom, AllocE
 }
 
 // The atoms of a table, by number.
-fn atoms_of(alloc: Global, table: &AtomTable) -> Result<Vec<Atom>, AllocError>
+fn atoms_of(alloc: Global, table: &AtomTable) -> Result<Vec<Atom>, Memory>
     ensures { IfOk result (λ atoms. atoms.items ≡ table.now) }
 {
     let mut atoms = Vec::new(alloc);
@@ -83,7 +84,7 @@ fn definitions_of(
     alloc: Global,
     table: &AtomTable,
     functions: &[Function],
-) -> Result<Vec<DefinitionName>, AllocError>
+) -> Result<Vec<DefinitionName>, Memory>
     requires { All (IsEntry (length table.now)) (map entry_of functions.now) }
     ensures { IfOk result (λ names. map name_of names.items ≡ definitions_of table.now functions.now) }
 {
@@ -108,9 +109,9 @@ pub(crate) fn symbols_for(
     table: &mut AtomTable,
     functions: &[Function],
     args: &[Constant],
-) -> Result<Symbols, AllocError>
+) -> Result<Symbols, Memory>
     requires { All (IsEntry (length table.old)) (map entry_of functions.now) }
-    ensures symbols { IfOk result (λ s. symbols_of s ≡ record { atoms = all_interned (map with_atoms_of args.now) table.old; definitions = definitions_of table.old functions.now; functions = length functions.now }) }
+    ensures symbols { IfOk result (λ s. symbols_of s ≡ symbols_of_call table.old functions.now args.now) }
     ensures table { OnOk result (table.new ≡ all_interned (map with_atoms_of args.now) table.old) }
 {
     let definitions = definitions_of(alloc, table, functions)?;

@@ -2,10 +2,11 @@
 
 ghost use Rattle.std.specs.Prelude.{◌≡◌, [], ◌∷◌, All, IfOk, length};
 
+use hipe_base::Memory;
 use hipe_terms::Atom;
 use image_link::{Code, Image, Names, link};
 use sqlite_items::Items;
-use std::alloc::{AllocError, Global};
+use std::alloc::Global;
 
 /// The atom of a text.
 ///
@@ -20,7 +21,7 @@ pub(crate) fn atom(alloc: Global, text: &str) -> anyhow::Result<Atom> {
 }
 
 // Code of one byte, which returns.
-fn returns(alloc: Global) -> Result<Code, AllocError>
+fn returns(alloc: Global) -> Result<Code, Memory>
     ensures { IfOk result (λ c. c ≡ record { bytes = 195 ∷ []; calls = []; closure_entry = 0 }) }
 {
     Ok(Code {
@@ -31,7 +32,7 @@ fn returns(alloc: Global) -> Result<Code, AllocError>
 }
 
 // The code of so many functions.
-fn parts(alloc: Global, count: usize) -> Result<Vec<Code>, AllocError>
+fn parts(alloc: Global, count: usize) -> Result<Vec<Code>, Memory>
     ensures { IfOk result (λ parts. (length parts.items ≡ count) × All (λ c. c ≡ record { bytes = 195 ∷ []; calls = []; closure_entry = 0 }) parts.items) }
 {
     let mut parts = Vec::new(alloc);

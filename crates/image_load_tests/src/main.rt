@@ -8,11 +8,19 @@
 //   tuple:N       a tuple of the last N constants
 //   list:N        a list of the N constants before the last, whose tail is the last
 //
-// It writes how the run begins: the address, the words of the first four arguments and the heap's free place, or that the call is
+// It writes how the run begins: the address, the words of the first four arguments and the heap pointer, or that the call is
 // undefined or the heap full. Behind it stand the numbers of atoms, definitions and functions, the address of the first function in
 // the table and the words of its last, the first three words of the argument area, the last word of the stack, and all of the heap.
 //
 // The lines of `stdin` and `stdout` are made by `table`, which has the layout of memory by its own rules.
+//
+// Promises: nothing.
+//
+// May touch: memory, standard input and output.
+//
+// Files:
+//   arguments.rt   the constants of a call, from their texts
+//   image.rt       the image whose functions are called
 #![tactic(auto)]
 
 ghost use Rattle.std.specs.Prelude.{◌≡◌, All, true};
@@ -26,9 +34,7 @@ use hipe_terms::{Call, Constant, is_constant};
 use image::{atom, image};
 use image_load::{Loaded, Start, load_program};
 use region_memory::Region;
-use region_memory::layout::{
-    ARGUMENTS_BEGIN, FUNCTION_LIMIT, STACK_BEGIN, STACK_LEAST, TABLE_BEGIN,
-};
+use region_memory::layout::{ARGUMENTS_BEGIN, STACK_BEGIN, STACK_LEAST, TABLE_BEGIN, TABLE_LIMIT};
 use sqlite_items::Items;
 use std::alloc::Global;
 
@@ -51,7 +57,7 @@ fn are_constants(args: &[Constant]) -> bool
 // The program of a call of the image in so many words of heap.
 fn loaded(alloc: Global, heap: u32, call: &Call) -> anyhow::Result<Loaded> {
     let image = image(alloc)?;
-    if image.functions().len() > FUNCTION_LIMIT || heap > HEAP_MOST {
+    if image.functions().len() > TABLE_LIMIT || heap > HEAP_MOST {
         return Err(anyhow::anyhow!("too many"));
     }
     if !are_constants(call.args.as_slice()) {
@@ -62,7 +68,7 @@ fn loaded(alloc: Global, heap: u32, call: &Call) -> anyhow::Result<Loaded> {
 }
 
 // The first word of a text, and what stands behind the blank.
-fn front(text: &str) -> (&str, &str) {
+fn first_and_rest(text: &str) -> (&str, &str) {
     match text.split_once(" ") {
         Some(parts) => parts,
         None => (text, ""),
@@ -71,8 +77,8 @@ fn front(text: &str) -> (&str, &str) {
 
 // The program of a line.
 fn read(alloc: Global, line: &str) -> anyhow::Result<Loaded> {
-    let (heap, rest) = front(line);
-    let (name, words) = front(rest);
+    let (heap, rest) = first_and_rest(line);
+    let (name, words) = first_and_rest(rest);
     let Ok(heap) = heap.parse::<u32>() else {
         return Err(anyhow::anyhow!("no number of words"));
     };

@@ -2,7 +2,7 @@ ghost use Rattle.std.specs.Prelude.{◌≡◌, ◌<◌, IfOk, length};
 ghost use Rattle.lattice_laws.specs.Systems.{SystemMeaning, IsSystem};
 
 use crate::lattice::Lattice;
-use crate::memory::Memory;
+use hipe_base::Memory;
 use std::alloc::Global;
 
 /// Nodes that make values for cells of the values of other cells.

@@ -10,6 +10,8 @@ use Rattle.heap_terms.specs.Shapes.{Symbols, Reference, Shape, Integer, Atom, Ni
 use Rattle.heap_terms.specs.Terms.{both, term_step, term_below}
 use Rattle.machine_services.specs.Laws.{IsKept, AllKept, ListsAppend}
 use Rattle.machine_services.specs.Lists.{spine_at, cells_from}
+use Rattle.machine_services.specs.declared.service.Service.TheVariants as services
+use Rattle.machine_services.specs.Numbers.{service_number}
 use Rattle.machine_services.specs.Services.{Ends, HeapFull, Builds, service, placed, appended, heap_with}
 
 -- ---- a reference that may refer higher
@@ -108,20 +110,20 @@ lower_at b j below h =
       chosen true false x e g = absurd (cc)
       chosen false d x e g = absurd (cc)
 
-two_words : (heap front back : List ℕ) (w x : ℕ) → heap ≡ front ++ (w ∷ x ∷ back) → words_from heap (length front) 2 ≡ Some (w ∷ x ∷ [])
-two_words heap front back w x e =
-    let long : length heap ≡ length front + suc (suc (length back)) = ap length e ∙ length-append front (w ∷ x ∷ back) in
-    let fits : length front + 2 ≤ length heap = omega arith in
-    let rest : drop (length front) heap ≡ w ∷ x ∷ back = ap (drop (length front)) e ∙ drop-append_seam front (w ∷ x ∷ back) in
-    if_true (Option (List ℕ)) (nat_le (length front + 2) (length heap)) _ _ (within (length front + 2) (length heap) fits) ∙ ap (λ l. Some (take 2 l)) rest where
+two_words : (heap prefix back : List ℕ) (w x : ℕ) → heap ≡ prefix ++ (w ∷ x ∷ back) → words_from heap (length prefix) 2 ≡ Some (w ∷ x ∷ [])
+two_words heap prefix back w x e =
+    let long : length heap ≡ length prefix + suc (suc (length back)) = ap length e ∙ length-append prefix (w ∷ x ∷ back) in
+    let fits : length prefix + 2 ≤ length heap = omega arith in
+    let rest : drop (length prefix) heap ≡ w ∷ x ∷ back = ap (drop (length prefix)) e ∙ drop-append_seam prefix (w ∷ x ∷ back) in
+    if_true (Option (List ℕ)) (nat_le (length prefix + 2) (length heap)) _ _ (within (length prefix + 2) (length heap) fits) ∙ ap (λ l. Some (take 2 l)) rest where
       within : (m n : ℕ) → m ≤ n → nat_le m n ≡ true
       within m n h = grind (arith, nat_tests)
 
-cell_term : (symbols : Symbols) (heap front back : List ℕ) (w x below : ℕ) (t v : Term) → heap ≡ front ++ (w ∷ x ∷ back) → length front < below
-    → term_below symbols heap (record { below = length front; word = w }) ≡ Some t → term_below symbols heap (record { below = length front; word = x }) ≡ Some v
-    → term_below symbols heap (record { below = below; word = heap_begin heap + 8 * length front + 1 }) ≡ Some (cons t v)
-cell_term symbols heap front back w x below t v e h first rest =
-    let j : ℕ = length front in
+cell_term : (symbols : Symbols) (heap prefix back : List ℕ) (w x below : ℕ) (t v : Term) → heap ≡ prefix ++ (w ∷ x ∷ back) → length prefix < below
+    → term_below symbols heap (record { below = length prefix; word = w }) ≡ Some t → term_below symbols heap (record { below = length prefix; word = x }) ≡ Some v
+    → term_below symbols heap (record { below = below; word = heap_begin heap + 8 * length prefix + 1 }) ≡ Some (cons t v)
+cell_term symbols heap prefix back w x below t v e h first rest =
+    let j : ℕ = length prefix in
     let k : ℕ = 3221225472 - length heap + j in
     let at : Reference = record { below = below; word = heap_begin heap + 8 * j + 1 } in
     let word : heap_begin heap + 8 * j + 1 ≡ 8 * k + 1 = omega (arith, begins heap) in
@@ -131,7 +133,7 @@ cell_term symbols heap front back w x below t v e h first rest =
     ∙ cons_word symbols heap below k
     ∙ ap (λ a. cons_at heap (lower heap below a)) address
     ∙ ap (cons_at heap) (lower_at (heap_begin heap) j below h)
-    ∙ ap (cons_shape j) (two_words heap front back w x e) in
+    ∙ ap (cons_shape j) (two_words heap prefix back w x e) in
     term_is symbols heap at
     ∙ ap (λ s. term_step at (option_map Reference (Option Term) (term_below symbols heap) s)) shape
     ∙ ap₂ both first rest
@@ -150,23 +152,23 @@ all_in symbols heap after i [] (t ∷ ts) l s k = k
 all_in symbols heap after i (w ∷ ws) [] l s k = k
 all_in symbols heap after i (w ∷ ws) (t ∷ ts) l s k = (k.0 after l s, all_in symbols heap after i ws ts l s k.1)
 
-list_term : (symbols : Symbols) (heap front : List ℕ) (free tail : ℕ) (u : Term) (ws : List ℕ) (ts : List Term) (back : List ℕ) (limit : ℕ)
-    → heap ≡ front ++ ((cells_from free ws tail).1 ++ back) → free ≡ heap_begin heap + 8 * length front
-    → AllIn symbols heap (length front) ws ts → term_below symbols heap (record { below = length front; word = tail }) ≡ Some u
-    → length front + length (cells_from free ws tail).1 ≤ limit
+list_term : (symbols : Symbols) (heap prefix : List ℕ) (free tail : ℕ) (u : Term) (ws : List ℕ) (ts : List Term) (back : List ℕ) (limit : ℕ)
+    → heap ≡ prefix ++ ((cells_from free ws tail).1 ++ back) → free ≡ heap_begin heap + 8 * length prefix
+    → AllIn symbols heap (length prefix) ws ts → term_below symbols heap (record { below = length prefix; word = tail }) ≡ Some u
+    → length prefix + length (cells_from free ws tail).1 ≤ limit
     → term_below symbols heap (record { below = limit; word = (cells_from free ws tail).0 }) ≡ Some (cells ts u)
-list_term symbols heap front free tail u [] [] back limit e f all last h = term_kept symbols heap (length front) limit tail u (omega arith) last
-list_term symbols heap front free tail u [] (t ∷ ts) back limit e f all last h = absurd all
-list_term symbols heap front free tail u (w ∷ ws) [] back limit e f all last h = absurd all
-list_term symbols heap front free tail u (w ∷ ws) (t ∷ ts) back limit e f all last h =
+list_term symbols heap prefix free tail u [] [] back limit e f all last h = term_kept symbols heap (length prefix) limit tail u (omega arith) last
+list_term symbols heap prefix free tail u [] (t ∷ ts) back limit e f all last h = absurd all
+list_term symbols heap prefix free tail u (w ∷ ws) [] back limit e f all last h = absurd all
+list_term symbols heap prefix free tail u (w ∷ ws) (t ∷ ts) back limit e f all last h =
     let r = cells_from free ws tail in
-    let below : List ℕ = front ++ r.1 in
-    let long : length below ≡ length front + length r.1 = length-append front r.1 in
+    let below : List ℕ = prefix ++ r.1 in
+    let long : length below ≡ length prefix + length r.1 = length-append prefix r.1 in
     let more : length (r.1 ++ w ∷ r.0 ∷ []) ≡ length r.1 + 2 = length-append r.1 (w ∷ r.0 ∷ []) in
-    let split : heap ≡ below ++ (w ∷ r.0 ∷ back) = e ∙ ap (λ l. front ++ l) (append_assoc r.1 (w ∷ r.0 ∷ []) back) ∙ sym (append_assoc front r.1 (w ∷ r.0 ∷ back)) in
+    let split : heap ≡ below ++ (w ∷ r.0 ∷ back) = e ∙ ap (λ l. prefix ++ l) (append_assoc r.1 (w ∷ r.0 ∷ []) back) ∙ sym (append_assoc prefix r.1 (w ∷ r.0 ∷ back)) in
     let rest : term_below symbols heap (record { below = length below; word = r.0 }) ≡ Some (cells ts u) =
-    list_term symbols heap front free tail u ws ts (w ∷ r.0 ∷ back) (length below) (split ∙ append_assoc front r.1 (w ∷ r.0 ∷ back)) f all.1 last (omega arith) in
-    let first : term_below symbols heap (record { below = length below; word = w }) ≡ Some t = term_kept symbols heap (length front) (length below) w t (omega arith) all.0 in
+    list_term symbols heap prefix free tail u ws ts (w ∷ r.0 ∷ back) (length below) (split ∙ append_assoc prefix r.1 (w ∷ r.0 ∷ back)) f all.1 last (omega arith) in
+    let first : term_below symbols heap (record { below = length below; word = w }) ≡ Some t = term_kept symbols heap (length prefix) (length below) w t (omega arith) all.0 in
     let word : free + 8 * length r.1 + 1 ≡ heap_begin heap + 8 * length below + 1 = omega arith in
     ap (λ n. term_below symbols heap (record { below = limit; word = n })) word
     ∙ cell_term symbols heap below back w r.0 limit t (cells ts u) split (omega arith) first rest
@@ -183,7 +185,7 @@ index_if : (b : Bool) (q : ℕ) (heap : List ℕ) (result result2 : ℕ) (words 
 index_if true q heap result result2 words words2 e = let p = placed_if (nat_le (q + length words) (length heap)) result result2 words words2 e in (refl, p.0, p.1, p.2)
 index_if false q heap result result2 words words2 e = absurd (cc)
 
-by_number : (symbols : Symbols) (heap : List ℕ) (first second free : ℕ) → service symbols heap 8 first second free ≡ appended heap free (spine_at symbols heap first) second
+by_number : (symbols : Symbols) (heap : List ℕ) (first second free : ℕ) → service symbols heap (service_number services.Append) first second free ≡ appended heap free (spine_at symbols heap first) second
 unfolding service
 by_number symbols heap first second free = refl
 
@@ -206,8 +208,8 @@ put_length heap words i h =
     let f : length (take i heap) ≡ i = length-take-le i heap (omega arith) in
     omega (arith, length-append (take i heap ++ words) (drop (i + length words) heap), length-append (take i heap) words, length-drop (i + length words) heap)
 
-put_front : (heap words : List ℕ) (i : ℕ) → i + length words ≤ length heap → take i (take i heap ++ words ++ drop (i + length words) heap) ≡ take i heap
-put_front heap words i h =
+put_prefix : (heap words : List ℕ) (i : ℕ) → i + length words ≤ length heap → take i (take i heap ++ words ++ drop (i + length words) heap) ≡ take i heap
+put_prefix heap words i h =
     let f : length (take i heap) ≡ i = length-take-le i heap (omega arith) in
     take-append-le i (take i heap ++ words) (drop (i + length words) heap) (omega (arith, length-append (take i heap) words))
     ∙ take-append-le i (take i heap) words (omega arith)
@@ -221,12 +223,12 @@ put_term : (symbols : Symbols) (heap : List ℕ) (second free i : ℕ) (ws : Lis
 put_term symbols heap second free i ws ts u h f all last after e =
     let words : List ℕ = (cells_from free ws second).1 in
     let back : List ℕ = drop (i + length words) heap in
-    let front : List ℕ = take i heap in
-    let count : length front ≡ i = length-take-le i heap (omega arith) in
+    let prefix : List ℕ = take i heap in
+    let count : length prefix ≡ i = length-take-le i heap (omega arith) in
     let long : length after ≡ length heap = ap length e ∙ put_length heap words i h in
-    let same : take i after ≡ take i heap = ap (take i) e ∙ put_front heap words i h in
+    let same : take i after ≡ take i heap = ap (take i) e ∙ put_prefix heap words i h in
     let begin : heap_begin after ≡ heap_begin heap = ap (λ n. HEAP_END - 8 * n) long in
-    list_term symbols after front free second u ws ts back (length after) (e ∙ append_assoc front words back) (omega arith)
+    list_term symbols after prefix free second u ws ts back (length after) (e ∙ append_assoc prefix words back) (omega arith)
     (subst (λ n. AllIn symbols after n ws ts) (sym count) (all_in symbols heap after i ws ts long same all))
     (subst (λ n. term_below symbols after (record { below = n; word = second }) ≡ Some u) (sym count) (last after long same))
     (omega arith)

@@ -29,8 +29,8 @@ two_set heap k w x h =
     ∙ ap (λ l. w ∷ set l 0 x) (drop-cons heap (k + 1) 0 h)
     ∙ ap (λ n. w ∷ x ∷ drop n heap) two
 
-joined : (front cells rest : List ℕ) (w x y : ℕ) → x ≡ y → front ++ cells ++ (w ∷ x ∷ rest) ≡ front ++ (cells ++ w ∷ y ∷ []) ++ rest
-joined front cells rest w x y e = ap (λ z. front ++ cells ++ (w ∷ z ∷ rest)) e ∙ simp append_assoc
+joined : (prefix cells rest : List ℕ) (w x y : ℕ) → x ≡ y → prefix ++ cells ++ (w ∷ x ∷ rest) ≡ prefix ++ (cells ++ w ∷ y ∷ []) ++ rest
+joined prefix cells rest w x y e = ap (λ z. prefix ++ cells ++ (w ∷ z ∷ rest)) e ∙ simp append_assoc
 
 -- the next cell, below those that were put
 pub cell_put : (heap : List ℕ) (at m free w : ℕ) (ws : List ℕ) (tail x : ℕ) → at ≤ m → m + 1 < length heap → x ≡ (cells_from free ws tail).0

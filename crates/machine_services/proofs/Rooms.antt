@@ -5,9 +5,9 @@ use Rattle.machine_services.specs.declared.list.Room.TheVariants as rooms
 use Rattle.machine_services.specs.declared.list.Spine.TheVariants as seen
 use Rattle.machine_services.specs.Ends.{spine_seen, room_of}
 use Rattle.machine_services.specs.Lists.{Spine, NoTerm, Improper, Proper, cells_from}
-use Rattle.machine_services.specs.Services.{Service, Ends, HeapFull, Builds, free_index, placed, appended}
+use Rattle.machine_services.specs.Services.{Effect, Ends, HeapFull, Builds, free_index, placed, appended}
 
-full_if : (b : Bool) (i : ℕ) (s : Service) → (if b then rooms.At i else rooms.Full) ≡ rooms.Full → (if b then s else Ends HeapFull) ≡ Ends HeapFull
+full_if : (b : Bool) (i : ℕ) (s : Effect) → (if b then rooms.At i else rooms.Full) ≡ rooms.Full → (if b then s else Ends HeapFull) ≡ Ends HeapFull
 full_if true i s e = absurd (cc)
 full_if false i s e = refl
 

@@ -112,17 +112,17 @@ no_elements symbols heap at below (w ∷ ws) e h = absurd (omega arith)
 pub tuple_put : (heap : List ℕ) (at from n x : ℕ) → from + n ≤ length heap → at + 1 + n ≤ length heap
     → set (copy_within heap from (from + n) (at + 1)) at x ≡ take at heap ++ (x ∷ take n (drop from heap)) ++ drop (at + 1 + n) heap
 tuple_put heap at from n x h g =
-    let front : List ℕ = take (at + 1) heap in
+    let prefix : List ℕ = take (at + 1) heap in
     let copy : List ℕ = take n (drop from heap) in
     let back : List ℕ = drop (at + 1 + n) heap in
-    let all : List ℕ = front ++ copy ++ back in
+    let all : List ℕ = prefix ++ copy ++ back in
     let count : from + n - from ≡ n = omega arith in
-    let long : length front ≡ at + 1 = length-take-le (at + 1) heap (omega arith) in
-    let one : suc at ≡ length front = omega arith in
-    let inside : at < length all = omega (arith, length-append (front ++ copy) back, length-append front copy) in
+    let long : length prefix ≡ at + 1 = length-take-le (at + 1) heap (omega arith) in
+    let one : suc at ≡ length prefix = omega arith in
+    let inside : at < length all = omega (arith, length-append (prefix ++ copy) back, length-append prefix copy) in
     let kept : take at all ≡ take at heap =
-    take-append-le at (front ++ copy) back (omega (arith, length-append front copy)) ∙ take-append-le at front copy (omega arith) ∙ take-take at (at + 1) heap (omega arith) in
-    let rest : drop (suc at) all ≡ copy ++ back = ap (λ k. drop k all) one ∙ ap (drop (length front)) (append_assoc front copy back) ∙ drop-append_seam front (copy ++ back) in
+    take-append-le at (prefix ++ copy) back (omega (arith, length-append prefix copy)) ∙ take-append-le at prefix copy (omega arith) ∙ take-take at (at + 1) heap (omega arith) in
+    let rest : drop (suc at) all ≡ copy ++ back = ap (λ k. drop k all) one ∙ ap (drop (length prefix)) (append_assoc prefix copy back) ∙ drop-append_seam prefix (copy ++ back) in
     ap (λ k. set (take (at + 1) heap ++ take k (drop from heap) ++ drop (at + 1 + k) heap) at x) count
     ∙ set_split all at x inside
     ∙ ap (λ l. l ++ (x ∷ drop (suc at) all)) kept

@@ -1,12 +1,13 @@
 -- How lists end, and where the words of lists and tuples stand, as the code sees it.
 use Rattle.std.specs.Prelude.{◌≡◌, ℕ, ◌+◌, ◌-◌, ◌*◌, ◌<◌, ◌≤◌, List, [], map, length, take, drop, nat_eq, nat_le, nat_lt, Bool, true, if◌then◌else◌, Option, Some, None}
+use Rattle.heap_terms.specs.declared.tags.TheConstants.{CONS_TAG}
 use Rattle.heap_terms.specs.Seen.{reference_of}
 use Rattle.heap_terms.specs.Shapes.{Reference, Shape, Nil, Cons, Tuple}
 use Rattle.heap_terms.specs.declared.shape.Reference.{Reference as AReference}
 use Rattle.machine_services.specs.Lists as Lists
 use Rattle.machine_services.specs.declared.list.Link.{Link}
 use Rattle.machine_services.specs.declared.list.Link.TheVariants as links
-use Rattle.machine_services.specs.declared.list.Place.{Place}
+use Rattle.machine_services.specs.declared.list.Span.{Span}
 use Rattle.machine_services.specs.declared.list.Room.{Room}
 use Rattle.machine_services.specs.declared.list.Room.TheVariants as rooms
 use Rattle.machine_services.specs.declared.list.Spine.{Spine}
@@ -61,7 +62,7 @@ stands_below at _ = true
 
 -- the word of a list of so many cells that stand from an address on, the last first, before a tail
 abbrev pub list_word : ℕ → ℕ → ℕ → ℕ
-list_word free n tail = if nat_eq n 0 then tail else free + 16 * (n - 1) + 1
+list_word free n tail = if nat_eq n 0 then tail else free + 16 * (n - 1) + CONS_TAG
 
 -- the words of a tuple's elements
 abbrev pub elements_of : Option (Shape Reference) → Option (List ℕ)
@@ -69,10 +70,10 @@ elements_of (Some (Tuple elements)) = Some (map (λ e. e.word) elements)
 elements_of _ = None
 
 -- these words stand there in the heap
-abbrev pub StandAt : List ℕ → Place → Option (List ℕ) → Type 0
+abbrev pub StandAt : List ℕ → Span → Option (List ℕ) → Type 0
 StandAt heap p ws = (p.at + p.words ≤ length heap) × (ws ≡ Some (take p.words (drop p.at heap)))
 
--- whether so many words fit behind the heap's free place
+-- whether so many words fit at the heap pointer
 abbrev pub room_of : List ℕ → Option ℕ → ℕ → Room
-room_of heap None n = rooms.NoPlace
+room_of heap None n = rooms.Outside
 room_of heap (Some i) n = if nat_le (i + n) (length heap) then rooms.At i else rooms.Full

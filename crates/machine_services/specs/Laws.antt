@@ -6,6 +6,8 @@ use Rattle.heap_terms.specs.Shapes.{Symbols, heap_begin}
 use Rattle.heap_terms.specs.Terms.{term_at, term_below}
 use Rattle.machine_services.specs.Comparing.{compared}
 use Rattle.machine_services.specs.Lists.{Proper, spine_at}
+use Rattle.machine_services.specs.declared.service.Service.TheVariants as services
+use Rattle.machine_services.specs.Numbers.{service_number}
 use Rattle.machine_services.specs.Services.{Builds, service, heap_with}
 
 -- words are in the order of the terms for which they stand
@@ -24,10 +26,10 @@ AllKept symbols heap i [] [] = Unit {0}
 AllKept symbols heap i (w ∷ ws) (t ∷ ts) = IsKept symbols heap i w t × AllKept symbols heap i ws ts
 AllKept symbols heap i ws ts = ⊥
 
--- the list that service 8 builds stands for the terms of the first list's elements before the term of the second word, where these stand
--- by what is below the free place
+-- the list that `Append` builds stands for the terms of the first list's elements before the term of the second word, where these stand
+-- by what is below the heap pointer
 abbrev pub ListsAppend : Type 0
 ListsAppend = (symbols : Symbols) (heap : List ℕ) (first second free result : ℕ) (words ws : List ℕ) (ts : List Term) (u : Term)
-    → service symbols heap 8 first second free ≡ Builds result words → spine_at symbols heap first ≡ Proper ws
+    → service symbols heap (service_number services.Append) first second free ≡ Builds result words → spine_at symbols heap first ≡ Proper ws
     → AllKept symbols heap ((free - heap_begin heap) / 8) ws ts → IsKept symbols heap ((free - heap_begin heap) / 8) second u
     → term_at symbols (heap_with heap free words) result ≡ Some (cells ts u)

@@ -3,6 +3,7 @@ pub mod Comparing
 pub mod Pending
 pub mod Lists
 pub mod Ends
+pub mod Numbers
 pub mod Services
 pub mod Served
 pub mod Laws

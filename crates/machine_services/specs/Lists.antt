@@ -1,5 +1,6 @@
 -- A list followed to its end. Its elements aren't looked at.
 use Rattle.std.specs.Prelude.{ℕ, ◌+◌, ◌*◌, List, [], ◌∷◌, ◌++◌, length, Option, Some, None}
+use Rattle.heap_terms.specs.declared.tags.TheConstants.{CONS_TAG}
 use Rattle.heap_terms.specs.Shapes.{Symbols, Reference, Shape, Nil, Cons, made_of, from_outside}
 
 -- a proper list has the words of its elements; what isn't one ends otherwise than in nil; a word on the way may be no term
@@ -36,7 +37,7 @@ spine_at symbols heap w = spine_below symbols heap (from_outside heap w)
 -- The cells of a list with these elements before a tail, from an address on, the last cell first: the list's word, and the words of the
 -- cells.
 abbrev pub cell : ℕ → ℕ → ℕ × List ℕ → ℕ × List ℕ
-cell free w rest = (free + 8 * length rest.1 + 1, rest.1 ++ w ∷ rest.0 ∷ [])
+cell free w rest = (free + 8 * length rest.1 + CONS_TAG, rest.1 ++ w ∷ rest.0 ∷ [])
 
 abbrev pub cells_from : ℕ → List ℕ → ℕ → ℕ × List ℕ
 cells_from free [] tail = (tail, [])

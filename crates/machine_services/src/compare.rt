@@ -10,7 +10,8 @@ ghost use Rattle.machine_services.specs.Pending.{pending_seen, pending_order, pe
 
 use crate::list::from_outside;
 use heap_terms::{Reference, Shape, Symbols, shape_at};
-use std::alloc::{AllocError, Global};
+use hipe_base::Memory;
+use std::alloc::Global;
 use std::cmp::Ordering;
 
 /// Words that refer below one place: the elements of a tuple or the captured values of a fun, from one on.
@@ -39,7 +40,7 @@ pub fn compare(
     heap: &[u64],
     a: u64,
     b: u64,
-) -> Result<Option<Ordering>, AllocError>
+) -> Result<Option<Ordering>, Memory>
     requires { length heap.now ≤ HEAP_LIMIT }
     ensures { IfOk result (λ order. order ≡ compared (symbols_of symbols.now) heap.now a b) }
 {
@@ -68,7 +69,7 @@ fn compare_next<'a>(
     heap: &'a [u64],
     next: Pending<'a>,
     pending: &mut Vec<Pending<'a>>,
-) -> Result<Option<Ordering>, AllocError>
+) -> Result<Option<Ordering>, Memory>
     requires { length heap.now ≤ HEAP_LIMIT }
     ensures order { IfOk result (λ found. then_on found (order_pending (symbols_of symbols.now) heap.now pending.new.items)
         ≡ then_on (pending_order (compared_below (symbols_of symbols.now) heap.now) (pending_seen next.entry)) (order_pending (symbols_of symbols.now) heap.now pending.old.items)) }
@@ -88,7 +89,7 @@ fn compare_pair<'a>(
     pending: &mut Vec<Pending<'a>>,
     a: Reference,
     b: Reference,
-) -> Result<Option<Ordering>, AllocError>
+) -> Result<Option<Ordering>, Memory>
     requires { length heap.now ≤ HEAP_LIMIT }
     ensures order { IfOk result (λ found. then_on found (order_pending (symbols_of symbols.now) heap.now pending.new.items)
         ≡ then_on (compared_below (symbols_of symbols.now) heap.now (reference_of a) (reference_of b)) (order_pending (symbols_of symbols.now) heap.now pending.old.items)) }
@@ -162,11 +163,7 @@ fn rank(a: Shape<'_>) -> u8
 }
 
 // Puts the parts of two shapes of one kind behind the others, the first last.
-fn push_opened<'a>(
-    pending: &mut Vec<Pending<'a>>,
-    a: Shape<'a>,
-    b: Shape<'a>,
-) -> Result<(), AllocError>
+fn push_opened<'a>(pending: &mut Vec<Pending<'a>>, a: Shape<'a>, b: Shape<'a>) -> Result<(), Memory>
     ensures { OnOk result (map pending_seen pending.new.items ≡ map pending_seen pending.old.items ++ opened (one_seen a.entry) (one_seen b.entry)) }
 {
     match a {
@@ -214,7 +211,7 @@ fn push_words<'a>(
     xs: &'a [u64],
     j: usize,
     ys: &'a [u64],
-) -> Result<(), AllocError>
+) -> Result<(), Memory>
     ensures { OnOk result (map pending_seen pending.new.items ≡ map pending_seen pending.old.items ++ Parts (parts i xs.now) (parts j ys.now) ∷ []) }
 {
     let left = Words {
@@ -234,7 +231,7 @@ fn compare_parts<'a>(
     pending: &mut Vec<Pending<'a>>,
     left: Words<'a>,
     right: Words<'a>,
-) -> Result<Ordering, AllocError>
+) -> Result<Ordering, Memory>
     ensures found { IfOk result (λ found. found ≡ ends_order (parts left.entry.below left.entry.words.now) (parts right.entry.below right.entry.words.now)) }
     ensures pushed { OnOk result (map pending_seen pending.new.items
         ≡ map pending_seen pending.old.items ++ parted (parts left.entry.below left.entry.words.now) (parts right.entry.below right.entry.words.now)) }

@@ -3,15 +3,18 @@
 ghost use Rattle.std.specs.Prelude.{◌≡◌, ◌≤◌, ◌<◌, ◌+◌, ◌*◌, ◌^◌, ◌++◌, take, drop, ℕ, List, true, length, ◌∷◌, None, IfOk, IfSome, MatchOption};
 ghost use Rattle.region_memory.specs.declared.layout.TheConstants.{HEAP_LIMIT};
 ghost use Rattle.heap_terms.specs.Seen.{symbols_of, reference_of};
+ghost use Rattle.heap_terms.specs.declared.tags.TheConstants.{HEADER_SCALE};
 ghost use Rattle.heap_terms.specs.Shapes.{from_outside, shape_at};
 ghost use Rattle.machine_services.specs.Lists.{spine_at, spine_below, cells_from};
 ghost use Rattle.machine_services.specs.Services.{free_index};
 ghost use Rattle.machine_services.specs.declared.list.Spine.TheVariants.{Proper};
 ghost use Rattle.machine_services.specs.Ends.{stands_below, spine_elements, IsProper, spine_seen, IsWithin, link_of, link_spine, FallsBelow, list_word, elements_of, StandAt, room_of};
 
+use heap_terms::tags::{CONS_TAG, HEADER_SCALE};
 use heap_terms::{Reference, Shape, Symbols, shape_at};
+use hipe_base::Memory;
 use region_memory::layout::HEAP_END;
-use std::alloc::{AllocError, Global};
+use std::alloc::Global;
 
 /// How a list ends.
 #[derive(Clone, Copy, Debug, PartialEq, Eq)]
@@ -92,7 +95,7 @@ pub fn elements(
     symbols: &Symbols,
     heap: &[u64],
     word: u64,
-) -> Result<Vec<u64>, AllocError>
+) -> Result<Vec<u64>, Memory>
     requires limit { length heap.now ≤ HEAP_LIMIT }
     requires proper { IsProper (spine_at (symbols_of symbols.now) heap.now word) }
     ensures { IfOk result (λ found. found.items ≡ spine_elements (spine_at (symbols_of symbols.now) heap.now word)) }
@@ -114,7 +117,7 @@ fn list_word(free: u64, cells: usize, tail: u64) -> u64
     if cells == 0 {
         tail
     } else {
-        free + 16 * (cells as u64 - 1) + 1
+        free + 16 * (cells as u64 - 1) + CONS_TAG
     }
 }
 
@@ -176,11 +179,11 @@ pub fn put_cells(heap: &mut [u64], at: usize, free: u64, elements: &[u64], tail:
     list_word(free, elements.len(), tail)
 }
 
-/// Whether there is room for words at the heap's free place.
+/// Whether there is room for words at the heap pointer.
 #[derive(Clone, Copy, Debug, PartialEq, Eq)]
 pub enum Room {
     /// It is no place of the heap, nor its end.
-    NoPlace,
+    Outside,
     /// The heap ends before.
     Full,
     /// There is, from the word with this number on.
@@ -193,7 +196,7 @@ pub fn room_at(heap: &[u64], free: u64, words: usize) -> Room
     ensures { result ≡ room_of heap.now (free_index heap.now free) words }
 {
     match free_index(heap, free) {
-        None => Room::NoPlace,
+        None => Room::Outside,
         Some(i) => {
             if words <= heap.len() - i {
                 Room::At(i)
@@ -204,7 +207,7 @@ pub fn room_at(heap: &[u64], free: u64, words: usize) -> Room
     }
 }
 
-// The number of the heap's word at the free place, which may be the end of the heap.
+// The number of the heap's word at the heap pointer, which may be the end of the heap.
 fn free_index(heap: &[u64], free: u64) -> Option<usize>
     requires { length heap.now ≤ HEAP_LIMIT }
     ensures number { result ≡ free_index heap.now free }
@@ -220,7 +223,7 @@ fn free_index(heap: &[u64], free: u64) -> Option<usize>
 
 /// Words of the heap, one behind the other.
 #[derive(Clone, Copy, Debug)]
-pub struct Place {
+pub struct Span {
     /// The number of the first, from 0 at the heap's lowest address on.
     pub at: usize,
     /// How many they are.
@@ -228,7 +231,7 @@ pub struct Place {
 }
 
 /// Where the words of a tuple's elements stand, where a word outside the heap is a tuple's.
-pub fn elements_at(symbols: &Symbols, heap: &[u64], word: u64) -> Option<Place>
+pub fn elements_at(symbols: &Symbols, heap: &[u64], word: u64) -> Option<Span>
     requires { length heap.now ≤ HEAP_LIMIT }
     ensures { MatchOption result (elements_of (shape_at (symbols_of symbols.now) heap.now (from_outside heap.now word)) ≡ None)
         (λ p. StandAt heap.now p (elements_of (shape_at (symbols_of symbols.now) heap.now (from_outside heap.now word)))) }
@@ -239,9 +242,9 @@ pub fn elements_at(symbols: &Symbols, heap: &[u64], word: u64) -> Option<Place>
             Shape::Tuple { below, elements } => {
                 if elements.is_empty() {
                     // What a tuple without elements refers below doesn't matter.
-                    return Some(Place { at: 0, words: 0 });
+                    return Some(Span { at: 0, words: 0 });
                 }
-                Some(Place {
+                Some(Span {
                     at: below + 1,
                     words: elements.len(),
                 })
@@ -253,12 +256,12 @@ pub fn elements_at(symbols: &Symbols, heap: &[u64], word: u64) -> Option<Place>
 }
 
 /// Puts a tuple into the heap, from the word with this number on, whose elements' words stand somewhere in it.
-pub fn put_tuple(heap: &mut [u64], at: usize, elements: Place)
+pub fn put_tuple(heap: &mut [u64], at: usize, elements: Span)
     requires limit { length heap.old ≤ HEAP_LIMIT }
     requires within { elements.at + elements.words ≤ length heap.old }
     requires room { at + 1 + elements.words ≤ length heap.old }
-    ensures { heap.new ≡ take at heap.old ++ ((64 * elements.words) ∷ take elements.words (drop elements.at heap.old)) ++ drop (at + 1 + elements.words) heap.old }
+    ensures { heap.new ≡ take at heap.old ++ ((HEADER_SCALE * elements.words) ∷ take elements.words (drop elements.at heap.old)) ++ drop (at + 1 + elements.words) heap.old }
 {
     heap.copy_within(elements.at..elements.at + elements.words, at + 1);
-    heap[at] = 64 * elements.words as u64;
+    heap[at] = HEADER_SCALE * elements.words as u64;
 }

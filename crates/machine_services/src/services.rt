@@ -1,47 +1,66 @@
 // The services by number.
 
-ghost use Rattle.std.specs.Prelude.{◌≡◌, ◌≤◌, ◌+◌, ◌*◌, length, Some, option_map, IfOk, OnErr};
+ghost use Rattle.std.specs.Prelude.{◌≡◌, ◌≤◌, ◌+◌, ◌*◌, length, Some, IfOk, OnErr};
+ghost use Rattle.hipe_terms.specs.Classes.{class_numbered};
 ghost use Rattle.region_memory.specs.declared.layout.TheConstants.{HEAP_LIMIT};
 ghost use Rattle.heap_terms.specs.Seen.{symbols_of};
 ghost use Rattle.heap_terms.specs.Shapes.{shape_at, from_outside};
 ghost use Rattle.heap_terms.specs.Terms.{term_at};
 ghost use Rattle.machine_services.specs.Comparing.{compared};
 ghost use Rattle.machine_services.specs.Lists.{spine_at};
-ghost use Rattle.machine_services.specs.Services.{service, returned, raised, class_of, displayed, equality, order_word, length_word, appended, copied, free_index};
+ghost use Rattle.machine_services.specs.Services.{service, does, returned, raised, displayed, by_order, length_word, appended, copied, free_index};
 ghost use Rattle.machine_services.specs.declared.list.Spine.TheVariants.{Proper};
 ghost use Rattle.machine_services.specs.Ends.{spine_seen};
-ghost use Rattle.machine_services.specs.Served.{IsServed, class_seen};
+ghost use Rattle.machine_services.specs.Served.{IsServed};
 
 use crate::compare::compare;
 use crate::list::{
     Room, Spine, copy_cells, elements, elements_at, follow, from_outside, link_at, put_cells,
     put_tuple, room_at, stands_below,
 };
+use crate::service::Service;
+use heap_terms::tags::OBJECT_TAG;
 use heap_terms::{Symbols, show_word, stands};
-use std::alloc::{AllocError, Global};
+use hipe_base::Memory;
+use hipe_terms::Class;
+use std::alloc::Global;
 use std::cmp::Ordering;
 
 /// The plain number -1 in a word.
 const MINUS_ONE: u64 = u64::MAX;
 
-/// The class of what is raised.
-#[derive(Clone, Copy, Debug, PartialEq, Eq)]
-pub enum Class {
-    Error,
-    Exit,
-    Throw,
+// The words that a service answers by the order of two others.
+#[derive(Clone, Copy)]
+struct OrderWords {
+    less: u64,
+    equal: u64,
+    greater: u64,
 }
+
+// 1 where two words stand for equal terms, else 0.
+const EQUALITY: OrderWords = OrderWords {
+    less: 0,
+    equal: 1,
+    greater: 0,
+};
+
+// -1, 0 or 1 by the order of two words.
+const ORDER: OrderWords = OrderWords {
+    less: MINUS_ONE,
+    equal: 0,
+    greater: 1,
+};
 
 /// A call of a service: what stands in the registers rax, rdi, rsi and r15.
 #[derive(Clone, Copy, Debug)]
 pub struct ServiceCall {
-    /// The number of the service, 0 to 9.
+    /// The number of the service.
     pub number: u64,
     /// The word in rdi: the first argument.
     pub first: u64,
     /// The word in rsi: the second argument, or the number of the class of what is raised.
     pub second: u64,
-    /// The address of the heap's free place.
+    /// The heap pointer: the address of the heap's first unused word.
     pub free: u64,
 }
 
@@ -62,7 +81,7 @@ pub enum Served {
     Answered(u64),
     /// It goes on with the word of `'true'` in rax, once this line is written: the text of a term and a newline.
     Displayed(String),
-    /// It goes on with the result in rax; so many words were put into the heap from the free place on.
+    /// It goes on with the result in rax; so many words were put into the heap from the heap pointer on.
     Built {
         /// The word of what was built.
         result: u64,
@@ -71,7 +90,7 @@ pub enum Served {
     },
 }
 
-/// Does the service over the heap. Its number is in rax, its arguments are in rdi and rsi, and the heap's free place is in r15.
+/// Does the service over the heap. Its number is in rax, its arguments are in rdi and rsi, and the heap pointer is in r15.
 ///
 /// | rax | what it does | rdi | rsi | what it answers |
 /// |---|---|---|---|---|
@@ -91,36 +110,54 @@ pub enum Served {
 ///
 /// The answer is `NoNext` where a word that is followed stands for no term, or that of 9 for no tuple; at any other number or class;
 /// and where 8 or 9 would build and r15 isn't the address of a word of the heap or of its end. Where the words of 8 or 9 don't fit
-/// behind the free place, it is `HeapFull`. The heap changes where the answer is `Built`, from the free place on alone.
+/// at the heap pointer, it is `HeapFull`. The heap changes where the answer is `Built`, from the heap pointer on alone.
 ///
 /// # Errors
 ///
-/// `AllocError` where there is no memory for what is still to be followed, for a line, or for the elements of a list that stands
-/// at or above the free place where it is copied: the heap stays as it was.
+/// `Memory` where there is no memory for what is still to be followed, for a line, or for the elements of a list that stands
+/// at or above the heap pointer where it is copied: the heap stays as it was.
 #[tactic(auto, unfolding(crate::specs::Services::service))]
 pub fn serve(
     alloc: Global,
     symbols: &Symbols,
     heap: &mut [u64],
     call: ServiceCall,
-) -> Result<Served, AllocError>
+) -> Result<Served, Memory>
     requires { length heap.old ≤ HEAP_LIMIT }
     ensures served { IfOk result (λ s. IsServed (symbols_of symbols.now).definitions heap.old call.free
         (service (symbols_of symbols.now) heap.old call.number call.first call.second call.free) s heap.new) }
     ensures memory { OnErr result (heap.new ≡ heap.old) }
 {
-    match call.number {
-        0 => returned(alloc, symbols, heap, call),
-        1 => raised(alloc, symbols, heap, call),
-        2 => Ok(Served::HeapFull),
-        3 => Ok(Served::StackFull),
-        4 => displayed(alloc, symbols, heap, call),
-        5 => equality(alloc, symbols, heap, call),
-        6 => order_word(alloc, symbols, heap, call),
-        7 => Ok(length_word(symbols, heap, call)),
-        8 => appended(alloc, symbols, heap, call),
-        9 => Ok(copied(symbols, heap, call)),
-        _ => Ok(Served::NoNext),
+    match Service::from_number(call.number) {
+        Some(service) => serve_by(alloc, symbols, heap, service, call),
+        None => Ok(Served::NoNext),
+    }
+}
+
+// Does this service over the heap.
+fn serve_by(
+    alloc: Global,
+    symbols: &Symbols,
+    heap: &mut [u64],
+    service: Service,
+    call: ServiceCall,
+) -> Result<Served, Memory>
+    requires { length heap.old ≤ HEAP_LIMIT }
+    ensures served { IfOk result (λ s. IsServed (symbols_of symbols.now).definitions heap.old call.free
+        (does (symbols_of symbols.now) heap.old service call.first call.second call.free) s heap.new) }
+    ensures memory { OnErr result (heap.new ≡ heap.old) }
+{
+    match service {
+        Service::Return => returned(alloc, symbols, heap, call),
+        Service::Raise => raised(alloc, symbols, heap, call),
+        Service::HeapFull => Ok(Served::HeapFull),
+        Service::StackFull => Ok(Served::StackFull),
+        Service::Display => displayed(alloc, symbols, heap, call),
+        Service::Equal => by_order(alloc, symbols, heap, call, EQUALITY),
+        Service::Compare => by_order(alloc, symbols, heap, call, ORDER),
+        Service::Length => Ok(length_word(symbols, heap, call)),
+        Service::Append => appended(alloc, symbols, heap, call),
+        Service::CopyTuple => Ok(copied(symbols, heap, call)),
     }
 }
 
@@ -130,7 +167,7 @@ fn returned(
     symbols: &Symbols,
     heap: &[u64],
     call: ServiceCall,
-) -> Result<Served, AllocError>
+) -> Result<Served, Memory>
     requires { length heap.now ≤ HEAP_LIMIT }
     ensures { IfOk result (λ s. IsServed (symbols_of symbols.now).definitions heap.now call.free
         (returned (term_at (symbols_of symbols.now) heap.now call.first)) s heap.now) }
@@ -148,12 +185,12 @@ fn raised(
     symbols: &Symbols,
     heap: &[u64],
     call: ServiceCall,
-) -> Result<Served, AllocError>
+) -> Result<Served, Memory>
     requires { length heap.now ≤ HEAP_LIMIT }
     ensures { IfOk result (λ s. IsServed (symbols_of symbols.now).definitions heap.now call.free
-        (raised (class_of call.second) (term_at (symbols_of symbols.now) heap.now call.first)) s heap.now) }
+        (raised (class_numbered call.second) (term_at (symbols_of symbols.now) heap.now call.first)) s heap.now) }
 {
-    match class_of(call.second) {
+    match Class::from_number(call.second) {
         None => Ok(Served::NoNext),
         Some(class) => {
             if stands(alloc, symbols, heap, call.first)? {
@@ -165,25 +202,13 @@ fn raised(
     }
 }
 
-// The class with this number.
-fn class_of(number: u64) -> Option<Class>
-    ensures { result ≡ option_map class_seen (class_of number) }
-{
-    match number {
-        1 => Some(Class::Error),
-        2 => Some(Class::Exit),
-        3 => Some(Class::Throw),
-        _ => None,
-    }
-}
-
 // The line of a term.
 fn displayed(
     alloc: Global,
     symbols: &Symbols,
     heap: &[u64],
     call: ServiceCall,
-) -> Result<Served, AllocError>
+) -> Result<Served, Memory>
     requires { length heap.now ≤ HEAP_LIMIT }
     ensures { IfOk result (λ s. IsServed (symbols_of symbols.now).definitions heap.now call.free
         (displayed (term_at (symbols_of symbols.now) heap.now call.first)) s heap.now) }
@@ -197,43 +222,24 @@ fn displayed(
     }
 }
 
-// 1 where two words stand for equal terms, else 0.
-fn equality(
+// One of three words by the order of two others.
+fn by_order(
     alloc: Global,
     symbols: &Symbols,
     heap: &[u64],
     call: ServiceCall,
-) -> Result<Served, AllocError>
+    words: OrderWords,
+) -> Result<Served, Memory>
     requires { length heap.now ≤ HEAP_LIMIT }
     ensures { IfOk result (λ s. IsServed (symbols_of symbols.now).definitions heap.now call.free
-        (equality (compared (symbols_of symbols.now) heap.now call.first call.second)) s heap.now) }
+        (by_order words.less words.equal words.greater (compared (symbols_of symbols.now) heap.now call.first call.second)) s heap.now) }
 {
     match compare(alloc, symbols, heap, call.first, call.second)? {
         None => Ok(Served::NoNext),
         Some(order) => match order {
-            Ordering::Equal => Ok(Served::Answered(1)),
-            Ordering::Less | Ordering::Greater => Ok(Served::Answered(0)),
-        },
-    }
-}
-
-// -1, 0 or 1 by the order of two words.
-fn order_word(
-    alloc: Global,
-    symbols: &Symbols,
-    heap: &[u64],
-    call: ServiceCall,
-) -> Result<Served, AllocError>
-    requires { length heap.now ≤ HEAP_LIMIT }
-    ensures { IfOk result (λ s. IsServed (symbols_of symbols.now).definitions heap.now call.free
-        (order_word (compared (symbols_of symbols.now) heap.now call.first call.second)) s heap.now) }
-{
-    match compare(alloc, symbols, heap, call.first, call.second)? {
-        None => Ok(Served::NoNext),
-        Some(order) => match order {
-            Ordering::Less => Ok(Served::Answered(MINUS_ONE)),
-            Ordering::Equal => Ok(Served::Answered(0)),
-            Ordering::Greater => Ok(Served::Answered(1)),
+            Ordering::Less => Ok(Served::Answered(words.less)),
+            Ordering::Equal => Ok(Served::Answered(words.equal)),
+            Ordering::Greater => Ok(Served::Answered(words.greater)),
         },
     }
 }
@@ -257,7 +263,7 @@ fn appended(
     symbols: &Symbols,
     heap: &mut [u64],
     call: ServiceCall,
-) -> Result<Served, AllocError>
+) -> Result<Served, Memory>
     requires { length heap.old ≤ HEAP_LIMIT }
     ensures served { IfOk result (λ s. IsServed (symbols_of symbols.now).definitions heap.old call.free
         (appended heap.old call.free (spine_at (symbols_of symbols.now) heap.old call.first) call.second) s heap.new) }
@@ -267,7 +273,7 @@ fn appended(
         Spine::NoTerm => Ok(Served::NoNext),
         Spine::Improper => Ok(Served::Answered(0)),
         Spine::Proper(n) => match room_at(heap, call.free, 2 * n) {
-            Room::NoPlace => Ok(Served::NoNext),
+            Room::Outside => Ok(Served::NoNext),
             Room::Full => Ok(Served::HeapFull),
             Room::At(i) => built(alloc, symbols, heap, call, n, i),
         },
@@ -282,7 +288,7 @@ fn built(
     call: ServiceCall,
     count: usize,
     at: usize,
-) -> Result<Served, AllocError>
+) -> Result<Served, Memory>
     requires limit { length heap.old ≤ HEAP_LIMIT }
     requires list { spine_seen (spine_at (symbols_of symbols.now) heap.old call.first) ≡ Proper count }
     requires place { free_index heap.old call.free ≡ Some at }
@@ -312,12 +318,12 @@ fn copied(symbols: &Symbols, heap: &mut [u64], call: ServiceCall) -> Served
     match elements_at(symbols, heap, call.first) {
         None => Served::NoNext,
         Some(elements) => match room_at(heap, call.free, 1 + elements.words) {
-            Room::NoPlace => Served::NoNext,
+            Room::Outside => Served::NoNext,
             Room::Full => Served::HeapFull,
             Room::At(i) => {
                 put_tuple(heap, i, elements);
                 Served::Built {
-                    result: call.free + 2,
+                    result: call.free + OBJECT_TAG,
                     words: 1 + elements.words,
                 }
             }

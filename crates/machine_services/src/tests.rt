@@ -7,7 +7,7 @@ use region_memory::layout::HEAP_LIMIT;
 use std::alloc::Global;
 use std::test::Fail;
 
-// Sixteen words, the first at 25769803648. The free place is the twelfth, at 25769803736.
+// Sixteen words, the first at 25769803648. The heap pointer is at the twelfth, at 25769803736.
 const HEAP: [u64; 16] = [
     // [42]
     687,
@@ -124,7 +124,7 @@ fn there_is_no_next_state(rt: HostRuntime) -> Result<(), Fail> {
 #[test]
 fn words_are_built(rt: HostRuntime) -> Result<(), Fail> {
     for (call, expected, at, words) in [
-        // [1,42] before 'true', at the free place; and before nil, over its own words.
+        // [1,42] before 'true', at the heap pointer; and before nil, over its own words.
         (
             [8, 25_769_803_665, 11, 25_769_803_736],
             "Built { result: 25769803753, words: 4 }",

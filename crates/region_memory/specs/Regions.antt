@@ -2,7 +2,8 @@
 use Rattle.std.specs.Prelude.{ℕ, ◌+◌, ◌-◌, ◌*◌, ◌/◌, ◌%◌, ◌≤◌, ◌≡◌, List, [], ◌&&◌, Option, Some, None, length, take, drop, replicate, slice_get, slice_set, nat_eq, nat_le, nat_lt, if◌then◌else◌}
 use Rattle.std.specs.Option.{option_or, option_map, option_and_then}
 use Rattle.std.specs.Int.{w64, from_le_bytes}
-use Rattle.region_memory.specs.declared.layout.TheConstants.{CODE_BEGIN, TABLE_BEGIN, ARGUMENTS_BEGIN, ARGUMENT_WORDS, STACK_BEGIN, HEAP_END, CODE_LIMIT, FUNCTION_LIMIT, STACK_LEAST, STACK_LIMIT, HEAP_LIMIT}
+use Rattle.hipe_base.specs.declared.limits.TheConstants.{CODE_LIMIT}
+use Rattle.region_memory.specs.declared.layout.TheConstants.{CODE_BEGIN, TABLE_BEGIN, ARGUMENTS_BEGIN, ARGUMENT_WORDS, STACK_BEGIN, HEAP_END, TABLE_LIMIT, STACK_LEAST, STACK_LIMIT, HEAP_LIMIT}
 
 -- the bytes of the code, and the words of the other regions, from the lowest address on
 pub record Regions : Type 0 where
@@ -15,7 +16,7 @@ pub record Regions : Type 0 where
 -- the regions are no larger than they may be
 pub record IsWithinLimits (r : Regions) : Type 0 where
   pub code : length r.code ≤ CODE_LIMIT
-  pub table : length r.table ≤ 2 * FUNCTION_LIMIT
+  pub table : length r.table ≤ 2 * TABLE_LIMIT
   pub arguments : length r.arguments ≡ ARGUMENT_WORDS
   pub stack_least : STACK_LEAST ≤ length r.stack
   pub stack : length r.stack ≤ STACK_LIMIT

@@ -31,10 +31,6 @@ pub const STACK_LEAST: u32 = 1_024;
 /// The largest stack, in words: 128 MiB, so that it ends at 0x4_0800_0000 at the highest.
 pub const STACK_LIMIT: u32 = 16_777_216;
 
-/// The longest code, in bytes: 1 GiB. A jump has a distance of 32 bits with a sign, which reaches all of it.
-/// `image_link` has the same limit for linked code.
-pub const CODE_LIMIT: usize = 1_073_741_824;
-
 /// The most functions of a table: 2 GiB of words, two for each function. An image, which takes 16 bytes for a
 /// function and has at most 1,140,850,688 bytes, has fewer.
-pub const FUNCTION_LIMIT: usize = 134_217_728;
+pub const TABLE_LIMIT: usize = 134_217_728;

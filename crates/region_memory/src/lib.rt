@@ -7,15 +7,18 @@
 // `with_word` what the regions are after a word was written there. It tests one region after another. The code goes
 // by the upper half of the address, which is the same within the limits of `layout.rt`.
 //
-// Promised here: `read` and `write` give exactly what the definition says, and take no memory. A `Region` always
+// Promises: `read` and `write` give exactly what the definition says, and take no memory. A `Region` always
 // keeps the limits. The laws: regions are apart, an address has at most one place, what was written is read again
 // and all other addresses read as before, and exactly the aligned addresses of the argument area, the stack and the
 // heap can be written.
+//
+// May touch: memory alone.
 //
 // Files:
 //   layout.rt     where the regions lie, and how large they may be
 //   region.rt     `Region`: the five regions, with their reads and writes
 //   laws.rt       what holds of the definition
+//   tests.rt      the tests
 #![tactic(auto)]
 
 pub mod laws;

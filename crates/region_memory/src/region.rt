@@ -2,15 +2,17 @@
 ghost use Rattle.std.specs.Prelude.{[], ◌≡◌, ◌+◌, ◌-◌, ◌*◌, ◌%◌, ◌<◌, ◌≤◌, length, IfOk, IfSome, is_some, slice_set, take, drop, ◌++◌};
 ghost use Rattle.std.specs.Option.{unwrap_or, option_map};
 ghost use Rattle.std.specs.Int.{w64, from_le_bytes};
+ghost use Rattle.hipe_base.specs.declared.limits.TheConstants.{CODE_LIMIT};
 ghost use Rattle.region_memory.specs.Regions.{IsWithinLimits, opened, zeros, heap_begin, byte_in, word_in, spot, word_at, with_word};
 ghost use Rattle.region_memory.specs.Laws.{LiesIn};
 ghost use Rattle.region_memory.specs.Seen.{spot_of};
 
 use super::layout::{
-    ARGUMENT_WORDS, ARGUMENTS_BEGIN, CODE_BEGIN, CODE_LIMIT, FUNCTION_LIMIT, HEAP_END, HEAP_LIMIT,
-    STACK_BEGIN, STACK_LEAST, STACK_LIMIT, TABLE_BEGIN,
+    ARGUMENT_WORDS, ARGUMENTS_BEGIN, CODE_BEGIN, HEAP_END, HEAP_LIMIT, STACK_BEGIN, STACK_LEAST,
+    STACK_LIMIT, TABLE_BEGIN, TABLE_LIMIT,
 };
-use std::alloc::{AllocError, Global};
+use hipe_base::Memory;
+use std::alloc::Global;
 use std::marker::Model;
 
 /// The memory of one run: code, function table, argument area, stack and heap. Contracts see it as `Regions`, the
@@ -57,7 +59,7 @@ pub(crate) enum Place {
 
 // So many words that are 0.
 #[tactic(auto, unfolding(crate::specs::Regions::zeros))]
-fn zero_words(alloc: Global, count: usize) -> Result<Vec<u64>, AllocError>
+fn zero_words(alloc: Global, count: usize) -> Result<Vec<u64>, Memory>
     ensures { IfOk result (λ words. words.items ≡ zeros count) }
 {
     vec![in alloc; 0u64; count]
@@ -115,8 +117,8 @@ fn begin_with(list: &mut [u64], words: &[u64])
     requires { length words.now ≤ length list.old }
     ensures { list.new ≡ words.now ++ drop (length words.now) list.old }
 {
-    let (front, _) = list.split_at_mut(words.len());
-    front.copy_from_slice(words);
+    let (first, _) = list.split_at_mut(words.len());
+    first.copy_from_slice(words);
 }
 
 impl Region {
@@ -125,8 +127,8 @@ impl Region {
     ///
     /// # Errors
     ///
-    /// `AllocError` where there was no memory for them.
-    pub fn open(alloc: Global, heap: u32, stack: u32) -> Result<Region, AllocError>
+    /// `Memory` where there was no memory for them.
+    pub fn open(alloc: Global, heap: u32, stack: u32) -> Result<Region, Memory>
         requires heap { heap ≤ HEAP_LIMIT }
         requires stack_least { STACK_LEAST ≤ stack }
         requires stack { stack ≤ STACK_LIMIT }
@@ -145,7 +147,7 @@ impl Region {
     /// its closure entry and its arity. What was there before is dropped. It takes no memory.
     pub fn with_program(self, code: Vec<u8>, table: Vec<u64>) -> Region
         requires code { length code.items ≤ CODE_LIMIT }
-        requires table { length table.items ≤ 2 * FUNCTION_LIMIT }
+        requires table { length table.items ≤ 2 * TABLE_LIMIT }
         ensures { result ≡ record self { code = code.items; table = table.items } }
     {
         Region {

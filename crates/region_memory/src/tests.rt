@@ -1,11 +1,12 @@
 // Reads and writes at addresses by hand; and that a call with ample memory succeeds.
 use super::*;
 use crate::layout::{HEAP_LIMIT, STACK_LIMIT};
-use std::alloc::{AllocError, Global};
+use hipe_base::Memory;
+use std::alloc::Global;
 use std::test::Fail;
 
 // 18 bytes of code, one function, 1,024 words of stack and two words of heap.
-fn sample(alloc: Global) -> Result<Region, AllocError> {
+fn sample(alloc: Global) -> Result<Region, Memory> {
     let code = vec![in alloc;
         1, 2, 3, 4, 5, 6, 7, 8, 9, 10, 11, 12, 13, 14, 15, 16, 17, 18,
     ]?;
@@ -14,7 +15,7 @@ fn sample(alloc: Global) -> Result<Region, AllocError> {
 }
 
 // At these addresses stand these words, and none can be written.
-fn only_read(alloc: Global, rows: &[(u64, Option<u64>)]) -> Result<bool, AllocError> {
+fn only_read(alloc: Global, rows: &[(u64, Option<u64>)]) -> Result<bool, Memory> {
     let mut region = sample(alloc)?;
     for (address, word) in rows {
         if region.read(*address) != *word || region.write(*address, !*address) {

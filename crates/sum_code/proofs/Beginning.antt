@@ -2,7 +2,8 @@
 use Rattle.std.proofs.Common.{◌≡◌, ℕ, ◌+◌, ◌-◌, ◌*◌, ◌≤◌, true, List, [], ◌∷◌, length, Some, None, bytes_eq, ap, ◌∙◌, arith, length-set}
 use Rattle.std.specs.Prelude.{codes, nat_le, ◌&&◌, if◌then◌else◌}
 use Rattle.std.proofs.lemmas.Bool.Decides.{nat_tests}
-use Rattle.region_memory.specs.declared.layout.TheConstants.{CODE_BEGIN, STACK_BEGIN, CODE_LIMIT}
+use Rattle.hipe_base.specs.declared.limits.TheConstants.{CODE_LIMIT}
+use Rattle.region_memory.specs.declared.layout.TheConstants.{CODE_BEGIN, STACK_BEGIN}
 use Rattle.region_memory.specs.Regions.{Regions, IsWithinLimits, heap_begin}
 use Rattle.image_link.specs.declared.image.Function.{Function}
 use Rattle.image_link.specs.Atoms.{Atoms, interned, number_in}

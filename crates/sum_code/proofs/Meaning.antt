@@ -10,7 +10,8 @@ use Rattle.amd64_form.specs.declared.reg.Reg.TheVariants.{Rax}
 use Rattle.amd64_form.specs.Inst.{IsInst}
 use Rattle.amd64_form.specs.Encoding.{encoding}
 use Rattle.amd64_form.proofs.Sizes.{encoding_size}
-use Rattle.region_memory.specs.declared.layout.TheConstants.{CODE_BEGIN, CODE_LIMIT, STACK_BEGIN}
+use Rattle.hipe_base.specs.declared.limits.TheConstants.{CODE_LIMIT}
+use Rattle.region_memory.specs.declared.layout.TheConstants.{CODE_BEGIN, STACK_BEGIN}
 use Rattle.region_memory.specs.Regions.{Regions, IsWithinLimits, opened, zeros}
 use Rattle.region_memory.proofs.Words.{opened_within}
 use Rattle.heap_terms.specs.Integers.{IsInteger, word_of}

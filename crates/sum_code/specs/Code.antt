@@ -1,5 +1,5 @@
 -- The code of a sum.
-use Rattle.std.specs.Prelude.{◌≡◌, ◌≤◌, ℕ, ℤ, negsuc, List, [], ◌∷◌, ◌++◌, Some, codes}
+use Rattle.std.specs.Prelude.{◌≡◌, ◌≤◌, ℕ, ℤ, pos, ◌-ℤ◌, List, [], ◌∷◌, ◌++◌, Some, codes}
 use Rattle.std.specs.List.{flat_map}
 use Rattle.hipe_terms.specs.Terms.{integer}
 use Rattle.hipe_terms.specs.declared.constant.Call.{Call}
@@ -9,6 +9,7 @@ use Rattle.amd64_form.specs.declared.operation.BinaryOp.TheVariants.{Add}
 use Rattle.amd64_form.specs.declared.reg.Reg.TheVariants.{Rax, Rcx, Rdx}
 use Rattle.amd64_form.specs.Encoding.{encoding}
 use Rattle.region_memory.specs.Regions.{opened}
+use Rattle.heap_terms.specs.declared.tags.TheConstants.{INTEGER_TAG}
 use Rattle.heap_terms.specs.Integers.{word_of}
 use Rattle.machine_services.specs.Services.{Returned}
 use Rattle.image_link.specs.declared.code.Code.{Code as Part}
@@ -27,9 +28,9 @@ use Rattle.sum_code.specs.declared.limits.TheConstants.{HEAP_WORDS, STACK_WORDS,
 abbrev pub Code : Type 0
 Code = List Inst
 
--- adds the word on top of the stack to rax: each word has 15 in its low bits, and so has the sum's
+-- adds the word on top of the stack to rax: each word has its tag in its low bits, and so has the sum's
 abbrev pub addition : Code
-addition = Pop Rcx ∷ Binary Add Rax Rcx ∷ BinaryConstant Add Rax (negsuc 14) ∷ []
+addition = Pop Rcx ∷ Binary Add Rax Rcx ∷ BinaryConstant Add Rax (pos 0 -ℤ pos INTEGER_TAG) ∷ []
 
 abbrev pub evaluation_at : Sum-F Code → Code
 evaluation_at (Sum-F.Int n) = LoadConstant Rax (word_of n) ∷ []

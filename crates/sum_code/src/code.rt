@@ -8,25 +8,27 @@ ghost use Rattle.sum_code.specs.Code.{addition, evaluation, ending, bytes_of, co
 
 use amd64_form::{BinaryOp, Inst, Reg, encode};
 use core_sum::Sum;
-use std::alloc::{AllocError, Global};
+use heap_terms::tags::{INTEGER_SCALE, INTEGER_TAG};
+use hipe_base::Memory;
+use std::alloc::Global;
 
 // The word that stands for an integer.
 fn word(n: i64) -> u64
     requires { IsInteger n }
     ensures { result ≡ word_of n }
 {
-    (16 * n + 15).cast_unsigned()
+    (INTEGER_SCALE as i64 * n + INTEGER_TAG as i64).cast_unsigned()
 }
 
 // Appends one instruction.
-fn put(inst: Inst, code: &mut Vec<u8>) -> Result<(), AllocError>
+fn put(inst: Inst, code: &mut Vec<u8>) -> Result<(), Memory>
     ensures { OnOk result (code.new.items ≡ code.old.items ++ encoding inst) }
 {
     code.extend_from_slice(encode(inst).as_slice())
 }
 
 // Appends the instructions that add the word on top of the stack to rax.
-fn add(code: &mut Vec<u8>) -> Result<(), AllocError>
+fn add(code: &mut Vec<u8>) -> Result<(), Memory>
     ensures { OnOk result (code.new.items ≡ code.old.items ++ bytes_of addition) }
 {
     put(Inst::Pop(Reg::Rcx), code)?;
@@ -39,14 +41,14 @@ fn add(code: &mut Vec<u8>) -> Result<(), AllocError>
     let tag = Inst::BinaryConstant {
         op: BinaryOp::Add,
         to: Reg::Rax,
-        value: -15,
+        value: -(INTEGER_TAG as i32),
     };
     put(tag, code)
 }
 
 // Appends the instructions that leave the word of a sum's value in rax.
 #[tactic(auto, using(crate::proofs::Levels::levels))]
-fn evaluate(e: &Sum, code: &mut Vec<u8>) -> Result<(), AllocError>
+fn evaluate(e: &Sum, code: &mut Vec<u8>) -> Result<(), Memory>
     requires { HasSmallIntegers e.now }
     ensures { OnOk result (code.new.items ≡ code.old.items ++ bytes_of (evaluation e.now)) }
 {
@@ -68,7 +70,7 @@ fn evaluate(e: &Sum, code: &mut Vec<u8>) -> Result<(), AllocError>
 }
 
 // Appends the instructions that go back with the value in rax.
-fn end(code: &mut Vec<u8>) -> Result<(), AllocError>
+fn end(code: &mut Vec<u8>) -> Result<(), Memory>
     ensures { OnOk result (code.new.items ≡ code.old.items ++ bytes_of ending) }
 {
     let normal = Inst::LoadConstant {
@@ -81,7 +83,7 @@ fn end(code: &mut Vec<u8>) -> Result<(), AllocError>
 
 // The code of a function that goes back with a sum's value: the values that wait for their other part stand on the stack, and
 // the last value is in rax.
-pub(crate) fn code_of(alloc: Global, e: &Sum) -> Result<Vec<u8>, AllocError>
+pub(crate) fn code_of(alloc: Global, e: &Sum) -> Result<Vec<u8>, Memory>
     requires { HasSmallIntegers e.now }
     ensures { IfOk result (λ code. code.items ≡ code_for e.now) }
 {

@@ -7,13 +7,14 @@ ghost use Rattle.sum_code.specs.Code.{main_call as call_of_main};
 
 use crate::code::code_of;
 use core_sum::{MOST_INTEGERS, Sum};
+use hipe_base::Memory;
 use hipe_terms::{Atom, Call};
 use image_link::{Code, Image, LinkFault, Names, link};
 use sqlite_items::Items;
-use std::alloc::{AllocError, Global};
+use std::alloc::Global;
 
 // The name of the function.
-fn main_name(alloc: Global) -> Result<Atom, AllocError>
+fn main_name(alloc: Global) -> Result<Atom, Memory>
     ensures { IfOk result (λ name. name ≡ codes "main") }
 {
     match Atom::new(String::from_str(alloc, "main")?) {
@@ -26,8 +27,8 @@ fn main_name(alloc: Global) -> Result<Atom, AllocError>
 ///
 /// # Errors
 ///
-/// `AllocError` where there was no memory for its name.
-pub fn main_call(alloc: Global) -> Result<Call, AllocError>
+/// `Memory` where there was no memory for its name.
+pub fn main_call(alloc: Global) -> Result<Call, Memory>
     ensures { IfOk result (λ call. call ≡ call_of_main) }
 {
     Ok(Call {
@@ -37,7 +38,7 @@ pub fn main_call(alloc: Global) -> Result<Call, AllocError>
 }
 
 // The names of a module of this name that exports its one function.
-fn names_for_main(alloc: Global, name: &Atom) -> Result<Names, AllocError>
+fn names_for_main(alloc: Global, name: &Atom) -> Result<Names, Memory>
     ensures { IfOk result (λ names. names ≡ names_for_main name.now) }
 {
     let mut names = Names::new(alloc, name)?;
@@ -48,7 +49,7 @@ fn names_for_main(alloc: Global, name: &Atom) -> Result<Names, AllocError>
 }
 
 // The code of the function, which calls no other.
-fn part_for(alloc: Global, e: &Sum) -> Result<Code, AllocError>
+fn part_for(alloc: Global, e: &Sum) -> Result<Code, Memory>
     requires { HasSmallIntegers e.now }
     ensures { IfOk result (λ part. part ≡ part_for e.now) }
 {
@@ -63,8 +64,8 @@ fn part_for(alloc: Global, e: &Sum) -> Result<Code, AllocError>
 ///
 /// # Errors
 ///
-/// `AllocError` where there was no memory for the code or the image.
-pub fn sum_image(alloc: Global, name: &Atom, e: &Sum) -> Result<Image, AllocError>
+/// `Memory` where there was no memory for the code or the image.
+pub fn sum_image(alloc: Global, name: &Atom, e: &Sum) -> Result<Image, Memory>
     requires small { HasSmallIntegers e.now }
     requires few { count_of e.now ≤ MOST_INTEGERS }
     ensures image { IfOk result (λ image. image ≡ image_for name.now e.now) }
@@ -78,6 +79,6 @@ pub fn sum_image(alloc: Global, name: &Atom, e: &Sum) -> Result<Image, AllocErro
         Ok(image) => Ok(image),
         // The code of so few integers is short.
         Err(LinkFault::TooLarge { .. }) => unreachable!(),
-        Err(LinkFault::Memory) => Err(AllocError),
+        Err(LinkFault::Memory) => Err(Memory),
     }
 }

@@ -13,7 +13,7 @@ use Rattle.heap_terms.specs.Shapes.{Symbols}
 use Rattle.heap_terms.specs.Seen.{symbols_of}
 use Rattle.heap_terms.specs.Terms.{term_at}
 use Rattle.heap_terms.specs.Building.{all_built, built}
-use Rattle.machine_services.specs.Services.{Service, NoNext, Ends, Answers, Displays, Builds, Returned, returned, raised}
+use Rattle.machine_services.specs.Services.{Effect, NoNext, Ends, Answers, Displays, Builds, Returned, returned, raised}
 use Rattle.image_link.specs.Image.{ProgramImage}
 use Rattle.image_link.specs.declared.image.Function.{Function}
 use Rattle.image_load.specs.Loading.{HeapFull, symbols_for, loaded, begun, ready, not_ready, with_code, exported}
@@ -27,7 +27,7 @@ use Rattle.amd64_machine.specs.Loading.{start}
 use Rattle.amd64_machine.specs.Result.{answer_of, displayed_by, lines}
 use Rattle.hipe_edge.specs.Streams.{Stream}
 use Rattle.amd64_machine.specs.Outcome.{Seen, Ran, was_stopped, done, not_written, no_memory}
-use Rattle.amd64_machine.specs.Seen.{Held, machine_of, over, state_ended, state_seen, class_of}
+use Rattle.amd64_machine.specs.Seen.{Held, machine_of, over, state_ended, state_seen}
 use Rattle.amd64_machine.proofs.Runs.{runs_go_on}
 use Rattle.sum_code.specs.declared.limits.TheConstants.{HEAP_WORDS, STACK_WORDS, STEPS}
 use Rattle.sum_code.specs.Code.{main_call, EndsWith}
@@ -35,7 +35,7 @@ use Rattle.sum_run.specs.Run.{IsReady}
 
 -- ---- what a machine has displayed
 
-over_displayed : (at : ℕ) (v : Service) (ts : List Term) → displayed_by (over at v ts) ≡ ts
+over_displayed : (at : ℕ) (v : Effect) (ts : List Term) → displayed_by (over at v ts) ≡ ts
 over_displayed at NoNext ts = refl
 over_displayed at (Ends ending) ts = refl
 over_displayed at (Answers word) ts = refl
@@ -44,7 +44,7 @@ over_displayed at (Builds word words) ts = refl
 
 ended_displayed : (symbols : Symbols) (core : Core) (ended : Ended) (ts : List Term) → displayed_by (state_ended symbols core ended ts) ≡ ts
 ended_displayed symbols core (ways.Returned word) ts = over_displayed core.at (returned (term_at symbols core.region.heap word)) ts
-ended_displayed symbols core (ways.Raised class word) ts = over_displayed core.at (raised (Some (class_of class)) (term_at symbols core.region.heap word)) ts
+ended_displayed symbols core (ways.Raised class word) ts = over_displayed core.at (raised (Some class) (term_at symbols core.region.heap word)) ts
 ended_displayed symbols core ways.Undefined ts = refl
 ended_displayed symbols core ways.HeapFull ts = refl
 ended_displayed symbols core ways.StackFull ts = refl
@@ -113,12 +113,12 @@ came image v n old m out ends enough ready (done ts going stays run gained) =
     let there : new.state [] ≡ Gave v = ap new.state (sym nothing) ∙ over in
     let written : Appends out.before out.after [] = subst (λ us. Appends out.before out.after (lines old.symbols.definitions us)) nothing gained in
     subst (λ s. Came v new out (answer_of s)) (sym over) (gave there written)
-came image v n old m out ends enough ready (not_written k ts going stopped state rises front) =
+came image v n old m out ends enough ready (not_written k ts going stopped state rises prefix) =
     let same : displayed_by (machine_run old.symbols (suc k) (old.state [])) ≡ [] =
     ap (λ s. displayed_by (machine_run s (suc k) (old.state []))) ready.symbols
     ∙ ap (λ s. displayed_by (machine_run (symbols_for image []) (suc k) s)) ready.state
     ∙ shows_nothing image v n (suc k) ends enough (omega (arith, going.fewer)) in
-    faulted rises (subst (λ us. AppendsPrefix out.before out.after (lines old.symbols.definitions us)) same front)
+    faulted rises (subst (λ us. AppendsPrefix out.before out.after (lines old.symbols.definitions us)) same prefix)
 came image v n old m out ends enough ready (no_memory k ts going stopped state gained) =
     let same : ts ≡ [] =
     sym (machine_displayed m ts) ∙ ap displayed_by (sym state)
@@ -178,10 +178,10 @@ module _ {v : ℤ} {new : Seen} {out : Stream} where
   gave_nothing (gave there nothing) = nothing
 
   pub fault_rises : Came v new out ends.WriteFault → Rises out.faults_before out.faults_after
-  fault_rises (faulted rises front) = rises
+  fault_rises (faulted rises prefix) = rises
 
-  pub fault_front : Came v new out ends.WriteFault → AppendsPrefix out.before out.after []
-  fault_front (faulted rises front) = front
+  pub fault_prefix : Came v new out ends.WriteFault → AppendsPrefix out.before out.after []
+  fault_prefix (faulted rises prefix) = prefix
 
   pub wanted_nothing : Came v new out ends.Memory → Appends out.before out.after []
   wanted_nothing (wanted nothing) = nothing
@@ -195,16 +195,16 @@ CanCome e = ⊥
 
 pub can_come : {v : ℤ} {new : Seen} {out : Stream} {end : End} → Came v new out end → CanCome end
 can_come (gave there nothing) = tt
-can_come (faulted rises front) = tt
+can_come (faulted rises prefix) = tt
 can_come (wanted nothing) = tt
 
--- a front of what comes where nothing had been written before
-pub front_behind_nothing : (a b c : Option (List ℕ)) (line : List ℕ) → Appends a b [] → AppendsPrefix b c line → AppendsPrefix a c line
-front_behind_nothing a b c line h k = (k.0, behind_nothing a b c (take k.0 line) h k.1)
+-- a prefix of what comes where nothing had been written before
+pub prefix_behind_nothing : (a b c : Option (List ℕ)) (line : List ℕ) → Appends a b [] → AppendsPrefix b c line → AppendsPrefix a c line
+prefix_behind_nothing a b c line h k = (k.0, behind_nothing a b c (take k.0 line) h k.1)
 
 take_none : (n : ℕ) → take {A = ℕ} n [] ≡ []
 take_none zero = refl
 take_none (suc n) = refl
 
-pub front_of_nothing : (a b : Option (List ℕ)) (line : List ℕ) → AppendsPrefix a b [] → AppendsPrefix a b line
-front_of_nothing a b line h = (0, subst (Appends a b) (take_none h.0) h.1)
+pub prefix_of_nothing : (a b : Option (List ℕ)) (line : List ℕ) → AppendsPrefix a b [] → AppendsPrefix a b line
+prefix_of_nothing a b line h = (0, subst (Appends a b) (take_none h.0) h.1)

@@ -10,15 +10,16 @@ ghost use Rattle.sum_run.specs.Run.{value_line, IsReady};
 
 use amd64_machine::{End, Machine, ResultFault};
 use core_sum::{MOST_INTEGERS, Sum};
+use hipe_base::Memory;
 use hipe_edge::Sink;
 use hipe_terms::Atom;
 use region_memory::Region;
-use std::alloc::{AllocError, Global};
+use std::alloc::Global;
 use sum_code::limits::{HEAP_WORDS, STACK_WORDS, STEPS};
 use sum_code::{main_call, sum_image};
 
 // A machine that is loaded with the image of a sum and the call of its function.
-fn ready(alloc: Global, name: &Atom, e: &Sum) -> Result<Machine, AllocError>
+fn ready(alloc: Global, name: &Atom, e: &Sum) -> Result<Machine, Memory>
     requires small { HasSmallIntegers e.now }
     requires few { count_of e.now ≤ MOST_INTEGERS }
     ensures meaning { IfOk result (λ m. EndsWith (image_for name.now e.now) (value e.now)) }
@@ -35,7 +36,7 @@ fn ready(alloc: Global, name: &Atom, e: &Sum) -> Result<Machine, AllocError>
 ///
 /// # Errors
 ///
-/// - `WriteFault` where a write failed: a front of the line was written.
+/// - `WriteFault` where a write failed: a prefix of the line was written.
 /// - `Memory` where there was no memory for the image, the machine or the line: nothing was written.
 pub fn run_sum<O: Sink>(
     alloc: Global,

@@ -1,5 +1,5 @@
-use Rattle.amd64_form.proofs.Laws.{one_front}
+use Rattle.amd64_form.proofs.Laws.{one_prefix}
 use Rattle.amd64_form.proofs.decoding.one_spelling.Goals as goal
 
 pub returns : goal.returns
-returns c = one_front
+returns c = one_prefix

@@ -1,6 +1,7 @@
 use Rattle.std.proofs.Common.{subst}
 use Rattle.heap_terms.specs.Seen.{symbols_of}
-use Rattle.amd64_machine.proofs.Called.{WasServed, stops_here, returns_here, raises_here, heap_is_full, stack_is_full, answers_here, displays_here, not_displayed_here, builds_here, no_memory_here}
+use Rattle.amd64_machine.specs.Steps.{WasServed}
+use Rattle.amd64_machine.proofs.Called.{stops_here, returns_here, raises_here, heap_is_full, stack_is_full, answers_here, displays_here, not_displayed_here, builds_here, no_memory_here}
 use Rattle.amd64_machine.proofs.serving.serve_call.Goals as goal
 
 pub returns-in-Err-clause-step : goal.returns-in-Err-clause-step

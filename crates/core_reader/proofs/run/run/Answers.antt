@@ -1,6 +1,6 @@
 use Rattle.std.proofs.Common.{sym, ◌∙◌}
 use Rattle.core_token.specs.declared.token.Sort.{Sort}
-use Rattle.core_reader.specs.declared.limit.TheConstants.{LEVEL_LIMIT}
+use Rattle.hipe_base.specs.declared.limits.TheConstants.{LEVEL_LIMIT}
 use Rattle.core_reader.proofs.Running.{advanced, stopped, behind}
 use Rattle.core_reader.proofs.run.run.Goals as goal
 

@@ -2,7 +2,7 @@ use Rattle.std.proofs.Common.{◌≡◌, [], drop, All}
 use Rattle.core_token.specs.Text.{StandsIn}
 use Rattle.core_grammar.specs.Language.{limit}
 use Rattle.core_parser.specs.Machine.{run}
-use Rattle.core_reader.specs.declared.limit.TheConstants.{LEVEL_LIMIT}
+use Rattle.hipe_base.specs.declared.limits.TheConstants.{LEVEL_LIMIT}
 use Rattle.core_reader.specs.Terminals.{terminals_of}
 use Rattle.core_reader.proofs.run.run.Given as goal
 

@@ -1,7 +1,7 @@
 use Rattle.std.proofs.Common.{◌≡◌, ◌++◌, drop, string_bytes}
 use Rattle.core_meaning.specs.Output.{printed_lines}
-use Rattle.core_values.specs.Values.{terms_in}
-use Rattle.value_text.specs.Named.{names_of}
+use Rattle.eval_values.specs.Values.{terms_in}
+use Rattle.eval_text.specs.Named.{names_of}
 use Rattle.eval_source.proofs.lines.show_printed.Given as goal
 
 abbrev pub invariant-loop-value : goal.invariant-loop-value

@@ -1,9 +1,9 @@
 use Rattle.core_ast.specs.Trees.{module_of}
-use Rattle.core_eval.specs.Evaluations.{run_in}
+use Rattle.eval_run.specs.Evaluations.{run_in}
 use Rattle.core_meaning.specs.Output.{shown_names}
 use Rattle.core_meaning.specs.Procedures.{program_of}
 use Rattle.core_meaning.specs.Source.{source_run}
-use Rattle.value_text.specs.Named.{names_of}
+use Rattle.eval_text.specs.Named.{names_of}
 use Rattle.eval_source.proofs.Naming.{has_line, names_are, writes_same}
 use Rattle.eval_source.proofs.run.run_call.Goals as goal
 

@@ -5,12 +5,13 @@ use Rattle.hipe_edge.specs.Bytes.{AppendsPrefix}
 use Rattle.core_reader.specs.Language.{Reads}
 use Rattle.eval_source.specs.Commands.{command_in}
 use Rattle.eval_source.specs.Outcome.{no_memory}
-use Rattle.eval_source.specs.Refusing.{IsStop}
-use Rattle.eval_source.proofs.Coming.{keeps_same, asked, asked_nothing, words_refused, call_refused, not_read, text_refused, run_written, run_unwritten}
+use Rattle.hipe_stop.specs.Refusing.{IsStop}
+use Rattle.hipe_stop.proofs.Inputs.{keeps_same}
+use Rattle.eval_source.proofs.Coming.{asked, asked_nothing, arguments_refused, call_refused, not_read, text_refused, run_written, run_unwritten}
 use Rattle.eval_source.proofs.run.run_source.Goals as goal
 
 pub returns-in_default : goal.returns-in_default
-returns-in_default g c = words_refused _ _ _ _ _ (asked_nothing c.command_of.result _ c.command_of.ensures c.in_default.not-Some)
+returns-in_default g c = arguments_refused _ _ _ _ _ (asked_nothing c.command_of.result _ c.command_of.ensures c.in_default.not-Some)
 
 pub returns-in_err-call : goal.returns-in_err-call
 returns-in_err-call g c =

@@ -1,4 +1,4 @@
-use Rattle.eval_source.proofs.Coming.{keeps_same}
+use Rattle.hipe_stop.proofs.Inputs.{keeps_same}
 use Rattle.eval_source.proofs.Doing.{returned, stopped}
 use Rattle.eval_source.proofs.top.eval_source.Goals as goal
 

@@ -1,10 +1,10 @@
--- A front of the bytes was written, and the iterator has the rest.
+-- A prefix of the bytes was written, and the iterator has the rest.
 use Rattle.std.proofs.Common.{◌≤◌}
-use Rattle.hipe_edge.proofs.Known.{AppendsFront}
+use Rattle.hipe_edge.proofs.Known.{AppendsUpTo}
 use Rattle.hipe_edge.proofs.writing.write_pieces.Given as goal
 
 abbrev pub invariant-loop-piece : goal.invariant-loop-piece
 invariant-loop-piece g l = record {
-  written : AppendsFront (g.K.Sink.written l.initial.sink) (g.K.Sink.written l.sink) l.bytes l.piece-iterator.rest.now;
+  written : AppendsUpTo (g.K.Sink.written l.initial.sink) (g.K.Sink.written l.sink) l.bytes l.piece-iterator.rest.now;
   faults : g.K.Sink.faults l.initial.sink ≤ g.K.Sink.faults l.sink;
 }

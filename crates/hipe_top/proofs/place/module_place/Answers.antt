@@ -1,6 +1,6 @@
 use Rattle.std.proofs.Common.{Err, ap, sym, ◌∙◌}
-use Rattle.hipe_top.specs.Finding.{first_word}
-use Rattle.hipe_top.proofs.Placing.{word_found, begins_at, refused_tokens}
+use Rattle.hipe_top.specs.Finding.{first_keyword}
+use Rattle.hipe_top.proofs.Placing.{keyword_found, begins_at, refused_tokens}
 use Rattle.hipe_top.proofs.place.module_place.Goals as goal
 
 pub unreachable-requires : goal.unreachable-requires
@@ -10,10 +10,10 @@ unreachable-requires c =
 
 pub unreachable-requires-in-None : goal.unreachable-requires-in-None
 unreachable-requires-in-None c =
-    word_found c.args.text.now c.in-Ok.list (c.in-Ok.ensures.utf8, c.in-Ok.ensures.tokens) c.requires.reads
-    (ap (first_word c.args.text.now) (sym c.list-2.ensures) ∙ sym c.first_word.ensures ∙ c.in-None.is)
+    keyword_found c.args.text.now c.in-Ok.list (c.in-Ok.ensures.utf8, c.in-Ok.ensures.tokens) c.requires.reads
+    (ap (first_keyword c.args.text.now) (sym c.list-2.ensures) ∙ sym c.first_keyword.ensures ∙ c.in-None.is)
 
 pub returns : goal.returns
 returns c =
     begins_at c.args.text.now c.in-Ok.list c.in-Some.at (c.in-Ok.ensures.utf8, c.in-Ok.ensures.tokens)
-    (ap (first_word c.args.text.now) (sym c.list-2.ensures) ∙ sym c.first_word.ensures ∙ c.in-Some.is)
+    (ap (first_keyword c.args.text.now) (sym c.list-2.ensures) ∙ sym c.first_keyword.ensures ∙ c.in-Some.is)

@@ -1,12 +1,12 @@
-use Rattle.hipe_top.proofs.Running.{keeps_same}
-use Rattle.hipe_top.proofs.Outcomes.{words_answered, words_not_written, line_answered, answered_accepts, err_answered, err_without_memory, err_not_read, err_not_written}
+use Rattle.hipe_stop.proofs.Inputs.{keeps_same}
+use Rattle.hipe_top.proofs.Outcomes.{arguments_answered, arguments_not_written, line_answered, answered_accepts, err_answered, err_without_memory, err_not_read, err_not_written}
 use Rattle.hipe_top.proofs.top.hipe_alone.Goals as goal
 
 pub returns-in-None-clause-answered : goal.returns-in-None-clause-answered
-returns-in-None-clause-answered g c = words_answered _ _ _ _ _ c.report.result _ c.in-None.ensures c.report.ensures
+returns-in-None-clause-answered g c = arguments_answered _ _ _ _ _ c.report.result _ c.in-None.ensures c.report.ensures
 
 pub returns-in-None-clause-write_failed : goal.returns-in-None-clause-write_failed
-returns-in-None-clause-write_failed g c = words_not_written _ _ _ _ _ c.report.result _ c.in-None.ensures c.report.ensures
+returns-in-None-clause-write_failed g c = arguments_not_written _ _ _ _ _ c.report.result _ c.in-None.ensures c.report.ensures
 
 pub returns-in-Ok-clause-answered : goal.returns-in-Ok-clause-answered
 returns-in-Ok-clause-answered g c = λ itself.

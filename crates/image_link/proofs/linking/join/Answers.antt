@@ -1,5 +1,5 @@
 use Rattle.std.proofs.Common.{◌∙◌, ◌≤◌, ◌++◌, ap, sym, subst, All, length}
-use Rattle.image_link.specs.declared.limits.TheConstants.{CODE_LIMIT}
+use Rattle.hipe_base.specs.declared.limits.TheConstants.{CODE_LIMIT}
 use Rattle.image_link.specs.Code.{IsPart, exit_bytes}
 use Rattle.image_link.specs.Linking.{code_from}
 use Rattle.image_link.proofs.Parts.{joined_length, part_joined, starts_length, starts_within}

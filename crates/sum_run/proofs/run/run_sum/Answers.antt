@@ -9,7 +9,7 @@ use Rattle.amd64_machine.specs.Seen.{machine_of}
 use Rattle.core_sum.specs.Sums.{value}
 use Rattle.sum_code.specs.Code.{image_for}
 use Rattle.sum_run.specs.Run.{value_line}
-use Rattle.sum_run.proofs.Running.{came, Came, CanCome, can_come, gave_state, gave_nothing, fault_rises, fault_front, wanted_nothing, behind_nothing, front_behind_nothing, kept_behind_nothing, front_of_nothing}
+use Rattle.sum_run.proofs.Running.{came, Came, CanCome, can_come, gave_state, gave_nothing, fault_rises, fault_prefix, wanted_nothing, behind_nothing, prefix_behind_nothing, kept_behind_nothing, prefix_of_nothing}
 use Rattle.sum_run.proofs.run.run_sum.Goals as goal
 
 pub write_result-requires : goal.write_result-requires
@@ -41,7 +41,7 @@ returns-in-Returned-clause-err g c =
     let run : Came v new out ends.Returned = subst (Came v new out) c.in-Returned.is
     (came (image_for c.args.name.now c.args.e.now) v c.args.steps (machine_of c.in_ok-machine.machine) c.run.new.self out c.in_ok-machine.ensures.meaning c.requires.steps c.in_ok-machine.ensures.ready c.run.ensures.run) in
     on_err_weaker c.write_result.result
-    (λ h. front_behind_nothing out.before out.after (g.O.Sink.written c.write_result.new.out) (value_line v) (gave_nothing run)
+    (λ h. prefix_behind_nothing out.before out.after (g.O.Sink.written c.write_result.new.out) (value_line v) (gave_nothing run)
     (subst (λ s. AppendsPrefix out.after (g.O.Sink.written c.write_result.new.out) (result_line new.symbols.definitions s)) (gave_state run) h))
     c.write_result.ensures.err
 
@@ -61,7 +61,7 @@ returns-in-WriteFault-clause-err g c =
     let out = stream (g.O.Sink.written c.args.out.now) (g.O.Sink.written c.run.new.out) (g.O.Sink.faults c.args.out.now) (g.O.Sink.faults c.run.new.out) in
     let run : Came v new out ends.WriteFault = subst (Came v new out) c.in-WriteFault.is
     (came (image_for c.args.name.now c.args.e.now) v c.args.steps (machine_of c.in_ok-machine.machine) c.run.new.self out c.in_ok-machine.ensures.meaning c.requires.steps c.in_ok-machine.ensures.ready c.run.ensures.run) in
-    front_of_nothing out.before out.after (value_line v) (fault_front run)
+    prefix_of_nothing out.before out.after (value_line v) (fault_prefix run)
 
 pub returns-in-WriteFault-clause-write_fault : goal.returns-in-WriteFault-clause-write_fault
 returns-in-WriteFault-clause-write_fault g c =

@@ -1,4 +1,0 @@
-pub mod Matched
-pub mod Slots
-pub mod Tables
-pub mod Words

@@ -1,5 +1,0 @@
-use Rattle.core_contexts.proofs.Tables.{arities_are}
-use Rattle.core_contexts.proofs.program.Program.ground.Goals as goal
-
-pub returns : goal.returns
-returns c = arities_are c.args.self.now

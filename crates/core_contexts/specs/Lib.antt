@@ -1,4 +1,0 @@
--- What contracts say of the places of expressions, and of programs.
-pub mod Contexts
-pub mod Matches
-pub mod Programs

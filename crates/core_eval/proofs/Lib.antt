@@ -1,8 +1,0 @@
-pub mod Waits
-pub mod Expressions
-pub mod Places
-pub mod Primitives
-pub mod Fuel
-pub mod Grows
-pub mod Applications
-pub mod Steps

@@ -1,6 +1,0 @@
-use Rattle.std.proofs.Common.{◌≡◌}
-use Rattle.core_eval.specs.Configurations.{goes_on}
-use Rattle.core_eval.proofs.run.Evaluator.run.Given as goal
-
-abbrev pub invariant-loop : goal.invariant-loop
-invariant-loop l = goes_on l.self l.run l.next ≡ goes_on l.self l.fn.run l.fn.control

@@ -1,5 +1,0 @@
-use Rattle.core_parser.proofs.Modules.{one_call}
-use Rattle.core_parser.proofs.law.one_call.Goals as goal
-
-pub returns : goal.returns
-returns c = one_call

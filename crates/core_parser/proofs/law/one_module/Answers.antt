@@ -1,5 +1,0 @@
-use Rattle.core_parser.proofs.Modules.{one_module}
-use Rattle.core_parser.proofs.law.one_module.Goals as goal
-
-pub returns : goal.returns
-returns c = one_module

@@ -1,0 +1,3 @@
+-- Lemmas of the parser's values.
+pub mod Empty
+pub mod Reversed

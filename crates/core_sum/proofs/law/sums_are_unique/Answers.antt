@@ -1,5 +1,0 @@
-use Rattle.core_sum.proofs.Unique.{one_sum, one_place, not_both}
-use Rattle.core_sum.proofs.law.sums_are_unique.Goals as goal
-
-pub returns : goal.returns
-returns c = record { one_sum = one_sum; one_place = one_place; not_both = not_both }

@@ -1,5 +1,0 @@
-use Rattle.core_values.proofs.Made.{cons_made}
-use Rattle.core_values.proofs.list.cons.Goals as goal
-
-pub returns-in-Ok : goal.returns-in-Ok
-returns-in-Ok c = cons_made _ _ _ c.in-Ok.ensures

@@ -1,0 +1,4 @@
+pub mod Matched
+pub mod Slots
+pub mod Tables
+pub mod BifNames

@@ -1,5 +1,0 @@
-use Rattle.heap_laws.proofs.Built.{all_built_stand as law}
-use Rattle.heap_laws.proofs.constants.all_built_stand.Goals as goal
-
-pub returns : goal.returns
-returns c = law

@@ -1,5 +1,0 @@
-use Rattle.heap_laws.proofs.Counted.{built_takes as law}
-use Rattle.heap_laws.proofs.constants.built_takes.Goals as goal
-
-pub returns : goal.returns
-returns c = law

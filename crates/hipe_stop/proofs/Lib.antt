@@ -1,0 +1,4 @@
+-- Lemmas on the stops.
+pub mod Inputs
+pub mod Reading
+pub mod Lines

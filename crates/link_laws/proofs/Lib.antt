@@ -1,3 +1,0 @@
--- Lemmas on the definitions.
-pub mod Replacing
-pub mod Linking

@@ -1,2 +1,0 @@
--- What holds of linked code.
-pub mod Fields

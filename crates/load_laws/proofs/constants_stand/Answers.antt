@@ -1,5 +1,0 @@
-use Rattle.load_laws.proofs.Standing.{constants_stand as law}
-use Rattle.load_laws.proofs.constants_stand.Goals as goal
-
-pub returns : goal.returns
-returns c = law

@@ -1,2 +1,0 @@
--- Lemmas of stacks.
-pub mod Reversed

@@ -1,3 +1,0 @@
--- What contracts say of the parser's moves.
-pub mod Runs
-pub mod Steps

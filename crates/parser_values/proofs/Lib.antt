@@ -1,2 +1,0 @@
--- Lemmas of the parser's values.
-pub mod Empty

@@ -1,5 +1,0 @@
-use Rattle.service_laws.proofs.Served.{compares_equal as law}
-use Rattle.service_laws.proofs.laws.compares_equal.Goals as goal
-
-pub returns : goal.returns
-returns c = law

@@ -1,5 +1,0 @@
-use Rattle.service_laws.proofs.Served.{copies_tuple as law}
-use Rattle.service_laws.proofs.laws.copies_tuple.Goals as goal
-
-pub returns : goal.returns
-returns c = law

@@ -1,5 +1,0 @@
-use Rattle.service_laws.proofs.Served.{counts_elements as law}
-use Rattle.service_laws.proofs.laws.counts_elements.Goals as goal
-
-pub returns : goal.returns
-returns c = law

@@ -1,5 +1,0 @@
-use Rattle.service_laws.proofs.Served.{raises_term as law}
-use Rattle.service_laws.proofs.laws.raises_term.Goals as goal
-
-pub returns : goal.returns
-returns c = law
