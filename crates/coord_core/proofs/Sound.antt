@@ -75,6 +75,7 @@ module _ {V : Type 0} (is_value : V → Type 0) (l : LatticeMeaning V) (s : Syst
     pub node : t.node < s.nodes
     pub values : IsOneForEach is_value (s.needs t.node) t.snapshot
     pub at_most : IsUpTo t.snapshot (values_of l table (s.needs t.node))
+    pub from_one : 1 ≤ t.number
     pub number : t.number ≤ takes
 
   -- a ticket of the node is out with the table's values
@@ -158,7 +159,7 @@ module _ {V : Type 0} (is_value : V → Type 0) (l : LatticeMeaning V) (s : Syst
       less m n h = omega arith
 
       later : (t : TicketView V) → IsTicket st.table st.takes t → IsTicket st.table (st.takes + 1) t
-      later t i = record { node = i.node; values = i.values; at_most = i.at_most; number = up t.number st.takes i.number }
+      later t i = record { node = i.node; values = i.values; at_most = i.at_most; from_one = i.from_one; number = up t.number st.takes i.number }
         where
           up : (m n : ℕ) → m ≤ n → m ≤ n + 1
           up m n h = omega arith
@@ -172,9 +173,13 @@ module _ {V : Type 0} (is_value : V → Type 0) (l : LatticeMeaning V) (s : Syst
         node = next_in_range st.queue h w.queue_in_range;
         values = sweeps.one_for_each is_value l s laws sys st.table w.values node;
         at_most = joins.values_of-at_most is_value l laws st.table st.table (joins.at_most-refl is_value l laws st.table w.values) (s.needs node);
+        from_one = one_or_more st.takes;
         number = same st.takes;
       }
         where
+          one_or_more : (n : ℕ) → 1 ≤ n + 1
+          one_or_more n = omega arith
+
           same : (n : ℕ) → n + 1 ≤ n + 1
           same n = omega arith
 
@@ -245,7 +250,7 @@ module _ {V : Type 0} (is_value : V → Type 0) (l : LatticeMeaning V) (s : Syst
           joins.zip-trans is_value l laws u.snapshot (values_of l st.table (s.needs u.node)) (values_of l t' (s.needs u.node)) (each_from_all is_value u.snapshot k.values.1) (joins.values_of-values is_value l laws st.table w.values (s.needs u.node)) (joins.values_of-values is_value l laws t' v' (s.needs u.node)) k.at_most (joins.values_of-at_most is_value l laws st.table t' h (s.needs u.node))
 
       ticket_up : (u : TicketView V) → IsTicket st.table st.takes u → IsTicket (joined_all l st.table (local_of s t.node t.snapshot)) st.takes u
-      ticket_up u k = record { node = k.node; values = k.values; at_most = snapshot_up u k _ v1 up; number = k.number }
+      ticket_up u k = record { node = k.node; values = k.values; at_most = snapshot_up u k _ v1 up; from_one = k.from_one; number = k.number }
 
       first_value : (t' : List V) (cs : List ℕ) → 0 < length cs → value_of l t' (slice_index cs 0) ≡ get_or (values_of l t' cs) 0 l.bottom
       first_value t' [] h = absurd (omega arith)

@@ -1,6 +1,7 @@
 -- The theorem on histories, in the words of its contract.
-use Rattle.std.proofs.Common.{◌≡◌, ℕ, ◌+◌, ◌<◌, ◌≤◌, ◌⊎◌, inl, inr, [], ◌∷◌, ◌++◌, length, IsTrue, refl, sym, ap, ◌∙◌, subst, arith, eq-eqb}
-use Rattle.std.specs.List.{AllZip, Contains}
+use Rattle.std.proofs.Common.{◌≡◌, ℕ, ◌+◌, ◌<◌, ◌≤◌, ◌⊎◌, inl, inr, List, [], ◌∷◌, ◌++◌, map, length, nat_eq, IsTrue, refl, sym, ap, ◌∙◌, subst, arith, eq-eqb}
+use Rattle.std.specs.List.{AllByRecursion, AllZip, Contains, IsDistinct}
+use Rattle.std.specs.List.Sorted.{IsStrictlyIncreasing}
 use Rattle.lattice_laws.specs.Lattices.{LatticeMeaning, IsLattice}
 use Rattle.lattice_laws.specs.Systems.{SystemMeaning, IsSystem}
 use Rattle.coord_core.specs.declared.event.Event.TheVariants.{Take, Finish}
@@ -14,12 +15,13 @@ use Rattle.coord_core.specs.declared.answers.Taken.TheVariants.{Idle, Done}
 use Rattle.coord_core.specs.declared.answers.Ended.{Ended}
 use Rattle.coord_core.specs.declared.answers.Ended.TheVariants.{Joined, Stranger as NotOut}
 use Rattle.coord_core.specs.Answers.{IsGot, IsTake, IsEnd}
-use Rattle.coord_core.specs.Facts.{AreWithin, SnapshotsAreAtMost, IsPendingOrStable, ReachedNodesArePendingOrStable, IsAdvance}
+use Rattle.coord_core.specs.Facts.{AreWithin, SnapshotsAreAtMost, IsPendingOrStable, ReachedNodesArePendingOrStable, numbers_out, NumbersRise, IsAdvance}
 use Rattle.coord_core.proofs.Lists.{all_from_each, each_weaker}
+use Rattle.coord_core.proofs.Distinct.{distinct_from_increasing}
 use Rattle.coord_core.proofs.Sweeps as sweeps
 use Rattle.coord_core.proofs.Sound as sound
 use Rattle.coord_core.proofs.Histories as histories
-use Rattle.coord_core.proofs.TicketLists.{IsIn, contains_from_in, in_last}
+use Rattle.coord_core.proofs.TicketLists.{IsIn, contains_from_in, in_last, increasing-numbers}
 
 module _ {V : Type 0} (is_value : V → Type 0) (l : LatticeMeaning V) (s : SystemMeaning V) (laws : IsLattice is_value l) (sys : IsSystem is_value l s) where
   abbrev IsSound : State V → Type 0
@@ -42,6 +44,19 @@ module _ {V : Type 0} (is_value : V → Type 0) (l : LatticeMeaning V) (s : Syst
 
   pub pending_or_stable : (st : State V) → IsSound st → ReachedNodesArePendingOrStable l s st
   pending_or_stable st w node h ne = as_stated st node (w.pending_or_stable node h ne)
+
+  each_number : (table : List V) (takes : ℕ) (ts : List (TicketView V)) → AllByRecursion (sound.IsTicket is_value l s laws sys table takes) ts → AllByRecursion (λ n. (1 ≤ n) × (n ≤ takes)) (map (λ t. t.number) ts)
+  each_number table takes [] a = tt
+  each_number table takes (t ∷ ts) a = ((a.0.from_one, a.0.number), each_number table takes ts a.1)
+
+  rising : (st : State V) → IsSound st → IsStrictlyIncreasing (numbers_out st)
+  rising st w = increasing-numbers st.out w.numbers
+
+  pub numbers : (st : State V) → IsSound st → NumbersRise st
+  numbers st w = (all_from_each _ (numbers_out st) (each_number st.table st.takes st.out w.tickets), rising st w)
+
+  pub distinct : (st : State V) → IsSound st → IsDistinct nat_eq (numbers_out st)
+  distinct st w = distinct_from_increasing (numbers_out st) (rising st w)
 
   -- one ticket was taken with nothing out, and finished
   pub advances : (st st1 st2 : State V) (worker : ℕ) (t : Ticket V) → st ≡ replay l s st.journal → st.out ≡ [] → IsGot l s st worker t st1 → st2 ≡ step l s st1 (Finish t.worker t.number) → IsAdvance l s st st2

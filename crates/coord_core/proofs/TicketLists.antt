@@ -1,6 +1,7 @@
 -- The tickets that are out: membership, the order of their numbers, and finding one by its number.
-use Rattle.std.proofs.Common.{◌≡◌, ℕ, zero, suc, ◌<◌, ◌⊎◌, inl, inr, Bool, true, false, not, List, [], ◌∷◌, ◌++◌, ◌==◌, refl, sym, ap, ◌∙◌, subst, arith, eq-eqb, ne_eqb, Some}
+use Rattle.std.proofs.Common.{◌≡◌, ℕ, zero, suc, ◌+◌, ◌<◌, ◌⊎◌, inl, inr, Bool, true, false, not, List, [], ◌∷◌, ◌++◌, map, slice_index, ◌==◌, refl, sym, ap, ◌∙◌, subst, arith, eq-eqb, ne_eqb, Some}
 use Rattle.std.specs.List.{AllByRecursion, Contains, filter, find}
+use Rattle.std.specs.List.Sorted.{IsStrictlyIncreasing}
 use Rattle.std.proofs.lemmas.Bool.{cases_Bool}
 use Rattle.coord_core.specs.Tickets.{TicketView}
 use Rattle.coord_core.specs.States.{has_number, is_given, without}
@@ -70,6 +71,16 @@ module _ {V : Type 0} where
       each_kept : (t : TicketView V) (ts : List (TicketView V)) → AllByRecursion (λ u. t.number < u.number) ts → AllByRecursion (λ u. t.number < u.number) (filter p ts)
       each_kept t [] a = tt
       each_kept t (u ∷ ts) a = elim (cases_Bool (p u)) [ inl k ↦ rw k (a.0, each_kept t ts a.1) | inr k ↦ rw k (each_kept t ts a.1) ]
+
+  pub increasing-numbers : (ts : List (TicketView V)) → Ascends ts → IsStrictlyIncreasing (map (λ t. t.number) ts)
+  increasing-numbers [] a k h = absurd (omega (arith, h))
+  increasing-numbers (t ∷ []) a k h = absurd (omega (arith, h))
+  increasing-numbers (t ∷ u ∷ ts) a zero h = a.0.0
+  increasing-numbers (t ∷ u ∷ ts) a (suc k) h =
+      subst (λ n. slice_index (map (λ (w : TicketView V). w.number) (u ∷ ts)) k < slice_index (map (λ (w : TicketView V). w.number) (t ∷ u ∷ ts)) n) (sym (one_more k)) (increasing-numbers (u ∷ ts) a.1 k (omega (arith, h)))
+    where
+      one_more : (k : ℕ) → suc k + 1 ≡ suc (k + 1)
+      one_more k = omega arith
 
   -- a number names one ticket
   pub one_ticket : (ts : List (TicketView V)) (t u : TicketView V) → Ascends ts → IsIn t ts → IsIn u ts → t.number ≡ u.number → t ≡ u

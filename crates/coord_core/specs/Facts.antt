@@ -1,6 +1,7 @@
 -- What is true of a coordinator's state after any events.
-use Rattle.std.specs.Prelude.{◌≡◌, ◌≢◌, ℕ, ◌+◌, ◌<◌, ◌≤◌, ◌⊎◌, List, [], IsTrue, nat_eq}
+use Rattle.std.specs.Prelude.{◌≡◌, ◌≢◌, ℕ, ◌+◌, ◌<◌, ◌≤◌, ◌⊎◌, List, [], map, IsTrue, nat_eq}
 use Rattle.std.specs.List.{All, AllZip, Contains, list_any}
+use Rattle.std.specs.List.Sorted.{IsStrictlyIncreasing}
 use Rattle.lattice_laws.specs.Lattices.{LatticeMeaning}
 use Rattle.lattice_laws.specs.Systems.{SystemMeaning, reached_cell}
 use Rattle.coord_core.specs.declared.event.Event.{Event}
@@ -33,6 +34,14 @@ ReachedNodesArePendingOrStable l s st = (node : ℕ) → node < s.nodes → valu
 -- no more takes than the system's bound and the give-backs
 abbrev pub TakesAreBounded : {V : Type 0} → LatticeMeaning V → SystemMeaning V → List Event → Type 0
 TakesAreBounded l s events = takes_in events ≤ take_bound l s + give_backs_in events
+
+-- the numbers of the tickets that are out, in their order
+abbrev pub numbers_out : {V : Type 0} → State V → List ℕ
+numbers_out st = map (λ t. t.number) st.out
+
+-- each of them lies from 1 to how many tickets were given, and is below the next
+abbrev pub NumbersRise : {V : Type 0} → State V → Type 0
+NumbersRise st = All (λ number. (1 ≤ number) × (number ≤ st.takes)) (numbers_out st) × IsStrictlyIncreasing (numbers_out st)
 
 -- one ticket more was given, and nothing is out
 pub record IsAdvance {V : Type 0} (l : LatticeMeaning V) (s : SystemMeaning V) (old new : State V) : Type 0 where

@@ -3,7 +3,8 @@ ghost use Rattle.std.specs.List.{IsDistinct};
 ghost use Rattle.coord_core.specs.declared.event.Event.{Event};
 ghost use Rattle.coord_core.specs.Tables.{IsAtMost, IsSolution, least};
 ghost use Rattle.coord_core.specs.States.{replay, is_finished};
-ghost use Rattle.coord_core.specs.Facts.{AreWithin, SnapshotsAreAtMost, ReachedNodesArePendingOrStable, TakesAreBounded};
+ghost use Rattle.coord_core.specs.Bounds.{takes_in};
+ghost use Rattle.coord_core.specs.Facts.{AreWithin, SnapshotsAreAtMost, ReachedNodesArePendingOrStable, TakesAreBounded, numbers_out, NumbersRise};
 
 use lattice_laws::System;
 
@@ -31,6 +32,13 @@ pub fn every_history<S: System>()
     // the number of takes is bounded
     ensures bounded { (events : List Event) →
         TakesAreBounded S.Value.meaning S.meaning (replay S.Value.meaning S.meaning events).journal }
+    // as many tickets were given as the journal has takes; their numbers rise from 1, and no two that are out have one number
+    ensures counted { (events : List Event) →
+        let st = replay S.Value.meaning S.meaning events in
+        st.takes ≡ takes_in st.journal }
+    ensures numbers { (events : List Event) → NumbersRise (replay S.Value.meaning S.meaning events) }
+    ensures distinct { (events : List Event) →
+        IsDistinct nat_eq (numbers_out (replay S.Value.meaning S.meaning events)) }
 {}
 
 /// That `least` deserves its name. It does nothing: the clauses are the theorem.

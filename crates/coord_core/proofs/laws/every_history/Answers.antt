@@ -17,4 +17,7 @@ returns g c =
       queue = λ events. (replay_sound v l s lawful.lattice lawful events).queue_distinct;
       at_rest = λ events. at_rest v l s lawful.lattice lawful _ (replay_sound v l s lawful.lattice lawful events);
       bounded = λ events. takes_bounded v l s lawful.lattice lawful _ (replay_sound v l s lawful.lattice lawful events);
+      counted = λ events. (replay_sound v l s lawful.lattice lawful events).counted;
+      numbers = λ events. theorems.numbers v l s lawful.lattice lawful _ (replay_sound v l s lawful.lattice lawful events);
+      distinct = λ events. theorems.distinct v l s lawful.lattice lawful _ (replay_sound v l s lawful.lattice lawful events);
     }
