@@ -1,0 +1,2 @@
+-- What the calls of modules of sums mean.
+pub mod Returning
