@@ -8,7 +8,7 @@
 // failed; the writers append what they are given, or a prefix of it where a write failed; the sources and
 // sinks in memory fail exactly at the calls that they are told to.
 //
-// May touch: the readers and writers that the adapters are lent.
+// May touch: memory, for what it reads, and the readers and writers that the adapters are lent.
 //
 // Files:
 //   streams.rt     the traits `Source` and `Sink`

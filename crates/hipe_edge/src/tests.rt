@@ -121,3 +121,80 @@ fn reads_and_writes_through_std(rt: HostRuntime) -> Result<(), Fail> {
     assert_eq!(rt; written, Err(WriteFault));
     Ok(())
 }
+
+// A reader whose first read fails, and whose others give a byte each. It keeps how many reads there were, and how much room the last had.
+#[derive(Drop)]
+struct Halting {
+    reads: u8,
+    room: usize,
+}
+
+impl Read for Halting {
+    fn read(&mut self, buf: &mut [u8]) -> io::Result<usize> {
+        self.reads = self.reads.saturating_add(1);
+        self.room = buf.len();
+        if self.reads == 1 {
+            return Err(Error::from(ErrorKind::TimedOut));
+        }
+        if buf.is_empty() {
+            return Ok(0);
+        }
+        buf[0] = self.reads;
+        Ok(1)
+    }
+}
+
+#[test]
+fn a_source_reads_once_a_call_and_on_after_a_fault(rt: HostRuntime) -> Result<(), Fail> {
+    let mut reader = Halting { reads: 0, room: 0 };
+    let mut source = StdSource::new(&mut reader);
+    let mut into = [0u8; 4];
+    assert_eq!(rt; source.read(&mut into), Err(Failed));
+    assert_eq!(rt; into, [0, 0, 0, 0]);
+    assert_eq!(rt; source.read(&mut into), Ok(1));
+    assert_eq!(rt; into, [2, 0, 0, 0]);
+    assert_eq!(rt; source.read(&mut into), Ok(1));
+    assert_eq!(rt; into, [3, 0, 0, 0]);
+    assert_eq!(rt; reader.reads, 3);
+    assert_eq!(rt; reader.room, 4);
+    Ok(())
+}
+
+// A writer that takes two bytes at most. It keeps the lengths of the first pieces that it was offered, how many there were, and
+// how many flushes.
+#[derive(Drop)]
+struct Sipping {
+    offered: [usize; 4],
+    writes: usize,
+    flushes: u8,
+}
+
+impl Write for Sipping {
+    fn write(&mut self, buf: &[u8]) -> io::Result<usize> {
+        if self.writes < 4 {
+            self.offered[self.writes] = buf.len();
+        }
+        self.writes = self.writes.saturating_add(1);
+        Ok(buf.len().min(2))
+    }
+
+    fn flush(&mut self) -> io::Result<()> {
+        self.flushes = self.flushes.saturating_add(1);
+        Ok(())
+    }
+}
+
+#[test]
+fn a_write_is_offered_all_that_is_left_and_flushed(rt: HostRuntime) -> Result<(), Fail> {
+    let mut writer = Sipping {
+        offered: [0; 4],
+        writes: 0,
+        flushes: 0,
+    };
+    let written = write_piece(&mut StdSink::new(&mut writer), b"abcde");
+    assert_eq!(rt; written, Ok(()));
+    assert_eq!(rt; writer.offered, [5, 3, 1, 0]);
+    assert_eq!(rt; writer.writes, 3);
+    assert_eq!(rt; writer.flushes, 3);
+    Ok(())
+}
