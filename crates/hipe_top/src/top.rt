@@ -2,6 +2,7 @@
 ghost use Rattle.std.specs.Prelude.{◌≡◌, IfSome, map};
 ghost use Rattle.std.specs.String.{string_bytes};
 ghost use Rattle.hipe_top.specs.Answers.{HaveOneAnswer};
+ghost use Rattle.hipe_top.specs.Command.{IsCommand};
 ghost use Rattle.hipe_edge.specs.Streams.{stream};
 ghost use Rattle.hipe_top.specs.Outcome.{EndedByItself, Answered, RanOutOfMemory, ReadFailed, WriteFailed, Accepts};
 
@@ -61,6 +62,9 @@ pub fn hipe_alone<S: Source, O: Sink, E: Sink>(
         (stream (S.left source.old) (S.left source.new) (S.faults source.old) (S.faults source.new))
         (stream (O.written out.old) (O.written out.new) (O.faults out.old) (O.faults out.new))
         (stream (E.written err.old) (E.written err.new) (E.faults err.old) (E.faults err.new)) }
+
+    // Other arguments leave the source and out as they were, whatever the status.
+    ensures usage { ¬ IsCommand (map string_bytes arguments.now) → (source.new ≡ source.old) × (out.new ≡ out.old) }
 
     // Which texts are taken.
     ensures accepts { EndedByItself result →

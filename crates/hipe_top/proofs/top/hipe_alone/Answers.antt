@@ -12,6 +12,9 @@ pub returns-in-Ok-clause-answered : goal.returns-in-Ok-clause-answered
 returns-in-Ok-clause-answered g c = λ itself.
     line_answered _ c.in-Some.mode c.in-Some.ensures _ _ _ (keeps_same _) c.answer_source.ensures c.in-Ok.field-0 c.in-Ok.is
 
+pub returns-in-Ok-clause-usage : goal.returns-in-Ok-clause-usage
+returns-in-Ok-clause-usage g c = λ bad. absurd (bad (c.in-Some.mode, c.in-Some.ensures))
+
 pub returns-in-Ok-clause-accepts : goal.returns-in-Ok-clause-accepts
 returns-in-Ok-clause-accepts g c = λ itself. answered_accepts _ _ _ _ _ (returns-in-Ok-clause-answered g c itself)
 
@@ -30,6 +33,9 @@ returns-in-Err-clause-read_failed g c =
 pub returns-in-Err-clause-write_failed : goal.returns-in-Err-clause-write_failed
 returns-in-Err-clause-write_failed g c =
     err_not_written _ c.in-Some.mode c.in-Some.ensures _ _ _ _ c.answer_source.ensures c.in-Err.stop c.in-Err.is c.report-in-Err.ensures
+
+pub returns-in-Err-clause-usage : goal.returns-in-Err-clause-usage
+returns-in-Err-clause-usage g c = λ bad. absurd (bad (c.in-Some.mode, c.in-Some.ensures))
 
 pub returns-in-Err-clause-accepts : goal.returns-in-Err-clause-accepts
 returns-in-Err-clause-accepts g c = λ itself. answered_accepts _ _ _ _ _ (returns-in-Err-clause-answered g c itself)
