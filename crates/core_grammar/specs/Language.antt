@@ -11,43 +11,27 @@ use Rattle.core_grammar.specs.declared.terminal.Terminal.{Terminal}
 use Rattle.core_grammar.specs.Leave.{part, variable_operand, argument, Leave, token}
 use Rattle.core_grammar.specs.Grammar.{ModuleOf, CallOf}
 
--- a list of terminals is derived as this module
-abbrev pub Derives : Leave → List Terminal → Module → Type 0
-Derives ok ts m = ModuleOf ok m ts []
-
--- the same for a call
-abbrev pub DerivesCall : Leave → List Terminal → Call → Type 0
-DerivesCall ok ts c = CallOf ok c ts []
-
--- no part has a level above n
+-- no part has a level above n, and a call has at most as many arguments as one may have
 abbrev pub limit : ℕ → Leave
 limit n (part k) ts = nat_le k n
 limit n variable_operand ts = false
 limit n (argument i) ts = nat_le i ARITY_LIMIT
 
--- whatever the levels
+-- whatever the levels and the numbers of arguments
 abbrev pub any : Leave
 any (part k) ts = true
 any variable_operand ts = false
 any (argument i) ts = true
 
--- whatever the levels, and with variables as the module or the name of a `call`
+-- the same, and with variables as the module or the name of a `call`
 abbrev pub any_operand : Leave
 any_operand need ts = true
 
--- no part has a level above n of those that begin before the last m terminals
+-- `limit` for the parts that begin before the last m terminals
 abbrev pub within : ℕ → ℕ → Leave
 within n m (part k) ts = nat_le k n || nat_le (length ts) m
 within n m variable_operand ts = false
 within n m (argument i) ts = nat_le i ARITY_LIMIT || nat_le (length ts) m
-
--- some module goes on with these terminals
-abbrev pub Viable : Leave → List Terminal → Type 0
-Viable ok us = (ws : List Terminal) × (m : Module) × Derives ok (us ++ ws) m
-
--- the same, and no part that begins in these terminals has a level above n
-abbrev pub Fine : ℕ → List Terminal → Type 0
-Fine n us = (ws : List Terminal) × (m : Module) × Derives (within n (length ws)) (us ++ ws) m
 
 -- what Core Erlang has and the profile hasn't: floats, `receive`, `#` and `~`
 abbrev pub is_foreign : Kind → Bool
@@ -57,40 +41,63 @@ is_foreign (Kind.Mark Mark.Hash) = true
 is_foreign (Kind.Mark Mark.Tilde) = true
 is_foreign _ = false
 
+-- a language: which trees a list of terminals is derived as, with this leave
+abbrev pub Derivation : Type 0 → Type 1
+Derivation A = Leave → List Terminal → A → Type 0
+
+-- some tree of the language goes on with these terminals
+abbrev pub Viable : (A : Type 0) → Derivation A → Leave → List Terminal → Type 0
+Viable A D ok us = (ws : List Terminal) × (a : A) × D ok (us ++ ws) a
+
+-- the same, and no part that begins in these terminals has a level above n, and no argument is one too many
+abbrev pub Fine : (A : Type 0) → Derivation A → ℕ → List Terminal → Type 0
+Fine A D n us = (ws : List Terminal) × (a : A) × D (within n (length ws)) (us ++ ws) a
+
 -- a terminal that begins what Core Erlang has and the profile hasn't: a foreign one where an integer could stand, or a
--- variable as the module or the name of a `call`: what stands before it goes on as a module of the profile, and with it too
+-- variable as the module or the name of a `call`: what stands before it goes on as a tree of the profile, and with it too
 -- if variables could stand there
-pub data IsOutside (us : List Terminal) (t : Terminal) : Type 0 where
-  foreign_part : is_foreign t.kind ≡ true → Viable any (us ++ token (Kind.Natural 0) t.at ∷ []) → IsOutside us t
-  operand_of_call : Viable any us → Viable any_operand (us ++ t ∷ []) → IsOutside us t
+pub data IsOutside (A : Type 0) (D : Derivation A) (us : List Terminal) (t : Terminal) : Type 0 where
+  foreign_part : is_foreign t.kind ≡ true → Viable A D any (us ++ token (Kind.Natural 0) t.at ∷ []) → IsOutside A D us t
+  operand_of_call : Viable A D any us → Viable A D any_operand (us ++ t ∷ []) → IsOutside A D us t
 
--- why no module goes on with a terminal, or a part of too high a level begins with it
-abbrev pub Stops : ℕ → List Terminal → Terminal → Fault → Type 0
-Stops n us t Fault.Syntax = ¬ Viable any (us ++ t ∷ []) × ¬ IsOutside us t
-Stops n us t Fault.NotInProfile = ¬ Viable any (us ++ t ∷ []) × IsOutside us t
-Stops n us t Fault.TooDeep = Viable any (us ++ t ∷ []) × ¬ Fine n (us ++ t ∷ [])
+-- why no tree goes on with a terminal, or a part of too high a level or an argument too many begins with it
+abbrev pub Stops : (A : Type 0) → Derivation A → ℕ → List Terminal → Terminal → Fault → Type 0
+Stops A D n us t Fault.Syntax = ¬ Viable A D any (us ++ t ∷ []) × ¬ IsOutside A D us t
+Stops A D n us t Fault.NotInProfile = ¬ Viable A D any (us ++ t ∷ []) × IsOutside A D us t
+Stops A D n us t Fault.TooDeep = Viable A D any (us ++ t ∷ []) × ¬ Fine A D n (us ++ t ∷ [])
 
--- a list of terminals is no module, and where: at the first terminal that stops it, or at the place z of the text's end
-pub data Refused (n : ℕ) (z : Place) (ts : List Terminal) : Fault → Place → Type 0 where
-  at_terminal : {f : Fault} (us : List Terminal) (t : Terminal) (ws : List Terminal) → ts ≡ us ++ t ∷ ws → Fine n us → Stops n us t f → Refused n z ts f t.at
-  at_text_end : Fine n ts → ((m : Module) → Derives any ts m → ⊥) → Refused n z ts Fault.Syntax z
+-- a list of terminals is no tree of the language, and where: at the first terminal that stops it, or at the place z of the
+-- text's end
+pub data Refused (A : Type 0) (D : Derivation A) (n : ℕ) (z : Place) (ts : List Terminal) : Fault → Place → Type 0 where
+  at_terminal : {f : Fault} (us : List Terminal) (t : Terminal) (ws : List Terminal) → ts ≡ us ++ t ∷ ws → Fine A D n us → Stops A D n us t f → Refused A D n z ts f t.at
+  at_text_end : Fine A D n ts → ((a : A) → D any ts a → ⊥) → Refused A D n z ts Fault.Syntax z
 
--- some call goes on with these terminals, with no level above n and at most 255 arguments among the parts that begin in them
-abbrev pub FineCall : ℕ → List Terminal → Type 0
-FineCall n us = (ws : List Terminal) × (c : Call) × DerivesCall (within n (length ws)) (us ++ ws) c
+-- what a list of terminals that ends at z is read as: a tree that it is derived as with no level above n, or why and where it
+-- is refused
+abbrev pub IsAnswer : (A : Type 0) → Derivation A → ℕ → Place → List Terminal → Result A (Fault × Place) → Type 0
+IsAnswer A D n z ts (Ok a) = D (limit n) ts a
+IsAnswer A D n z ts (Err (f, p)) = Refused A D n z ts f p
 
--- a list of terminals is no call, and where
-pub data RefusedCall (n : ℕ) (z : Place) (ts : List Terminal) : Place → Type 0 where
-  call_at_terminal : (us : List Terminal) (t : Terminal) (ws : List Terminal) → ts ≡ us ++ t ∷ ws → FineCall n us → ¬ FineCall n (us ++ t ∷ []) → RefusedCall n z ts t.at
-  call_at_text_end : FineCall n ts → ((c : Call) → DerivesCall any ts c → ⊥) → RefusedCall n z ts z
+-- modules
 
--- what a list of terminals that ends at z is read as: a module that it is derived as with no level above n, or why and where
--- it is refused
-abbrev pub IsAnswer : ℕ → Place → List Terminal → Result Module (Fault × Place) → Type 0
-IsAnswer n z ts (Ok m) = Derives (limit n) ts m
-IsAnswer n z ts (Err (f, p)) = Refused n z ts f p
+-- a list of terminals is derived as this module
+abbrev pub Derives : Derivation Module
+Derives ok ts m = ModuleOf ok m ts []
 
--- the same for a call
-abbrev pub IsCallAnswer : ℕ → Place → List Terminal → Result Call Place → Type 0
-IsCallAnswer n z ts (Ok c) = DerivesCall (limit n) ts c
-IsCallAnswer n z ts (Err p) = RefusedCall n z ts p
+abbrev pub RefusedModule : ℕ → Place → List Terminal → Fault → Place → Type 0
+RefusedModule n z ts f p = Refused Module Derives n z ts f p
+
+abbrev pub IsModuleAnswer : ℕ → Place → List Terminal → Result Module (Fault × Place) → Type 0
+IsModuleAnswer n z ts r = IsAnswer Module Derives n z ts r
+
+-- calls
+
+-- a list of terminals is derived as this call
+abbrev pub DerivesCall : Derivation Call
+DerivesCall ok ts c = CallOf ok c ts []
+
+abbrev pub RefusedCall : ℕ → Place → List Terminal → Fault → Place → Type 0
+RefusedCall n z ts f p = Refused Call DerivesCall n z ts f p
+
+abbrev pub IsCallAnswer : ℕ → Place → List Terminal → Result Call (Fault × Place) → Type 0
+IsCallAnswer n z ts r = IsAnswer Call DerivesCall n z ts r

@@ -10,38 +10,55 @@ use Rattle.core_ast.specs.Trees.{module_of}
 use Rattle.core_ast.specs.WellFormed.{IsWellFormed}
 use Rattle.core_grammar.specs.Ranges.{terminals_in_range}
 use Rattle.core_grammar.specs.Leave.{Leave}
-use Rattle.core_grammar.specs.Language.{limit, Derives, DerivesCall, Refused, RefusedCall, IsAnswer, IsCallAnswer}
+use Rattle.core_grammar.specs.Language.{limit, Derivation, Refused, IsAnswer, Derives, DerivesCall}
 
--- a list of terminals is derived as at most one module, places included
-abbrev pub OneModule : Type 0
-OneModule = (ok : Leave) (ts : List Terminal) (m n : Module) → Derives ok ts m → Derives ok ts n → m ≡ n
+-- of any language
 
--- and as at most one call
-abbrev pub OneCall : Type 0
-OneCall = (ok : Leave) (ts : List Terminal) (c d : Call) → DerivesCall ok ts c → DerivesCall ok ts d → c ≡ d
+-- a list of terminals is derived as at most one tree, places included
+abbrev pub OneTree : (A : Type 0) → Derivation A → Type 0
+OneTree A D = (ok : Leave) (ts : List Terminal) (a b : A) → D ok ts a → D ok ts b → a ≡ b
 
--- what is refused is derived as no module with no level above n
-abbrev pub RefusedDerivesNone : Type 0
-RefusedDerivesNone = (n : ℕ) (z : Place) (ts : List Terminal) (f : Fault) (p : Place) → Refused n z ts f p → (m : Module) → ¬ Derives (limit n) ts m
-
--- nor as a call, where it is refused as one
-abbrev pub RefusedDerivesNoCall : Type 0
-RefusedDerivesNoCall = (n : ℕ) (z : Place) (ts : List Terminal) (p : Place) → RefusedCall n z ts p → (c : Call) → ¬ DerivesCall (limit n) ts c
+-- what is refused is derived as no tree with no level above n
+abbrev pub RefusedDerivesNone : (A : Type 0) → Derivation A → Type 0
+RefusedDerivesNone A D = (n : ℕ) (z : Place) (ts : List Terminal) (f : Fault) (p : Place) → Refused A D n z ts f p → (a : A) → ¬ D (limit n) ts a
 
 -- each list of terminals has an answer
-abbrev pub SomeAnswer : Type 0
-SomeAnswer = (n : ℕ) (z : Place) (ts : List Terminal) → (r : Result Module (Fault × Place)) × IsAnswer n z ts r
+abbrev pub SomeAnswer : (A : Type 0) → Derivation A → Type 0
+SomeAnswer A D = (n : ℕ) (z : Place) (ts : List Terminal) → (r : Result A (Fault × Place)) × IsAnswer A D n z ts r
 
 -- and one alone: the fault and its place too
-abbrev pub OneAnswer : Type 0
-OneAnswer = (n : ℕ) (z : Place) (ts : List Terminal) (r s : Result Module (Fault × Place)) → IsAnswer n z ts r → IsAnswer n z ts s → r ≡ s
+abbrev pub OneAnswer : (A : Type 0) → Derivation A → Type 0
+OneAnswer A D = (n : ℕ) (z : Place) (ts : List Terminal) (r s : Result A (Fault × Place)) → IsAnswer A D n z ts r → IsAnswer A D n z ts s → r ≡ s
 
--- the same of calls
+-- of modules
+
+abbrev pub OneModule : Type 0
+OneModule = OneTree Module Derives
+
+abbrev pub RefusedDerivesNoModule : Type 0
+RefusedDerivesNoModule = RefusedDerivesNone Module Derives
+
+abbrev pub SomeModuleAnswer : Type 0
+SomeModuleAnswer = SomeAnswer Module Derives
+
+abbrev pub OneModuleAnswer : Type 0
+OneModuleAnswer = OneAnswer Module Derives
+
+-- of calls
+
+abbrev pub OneCall : Type 0
+OneCall = OneTree Call DerivesCall
+
+abbrev pub RefusedDerivesNoCall : Type 0
+RefusedDerivesNoCall = RefusedDerivesNone Call DerivesCall
+
 abbrev pub SomeCallAnswer : Type 0
-SomeCallAnswer = (n : ℕ) (z : Place) (ts : List Terminal) → (r : Result Call Place) × IsCallAnswer n z ts r
+SomeCallAnswer = SomeAnswer Call DerivesCall
 
 abbrev pub OneCallAnswer : Type 0
-OneCallAnswer = (n : ℕ) (z : Place) (ts : List Terminal) (r s : Result Call Place) → IsCallAnswer n z ts r → IsCallAnswer n z ts s → r ≡ s
+OneCallAnswer = OneAnswer Call DerivesCall
+
+-- what the productions give
 
 -- modules that are derived are well formed: integers are in their range, and a list in the tail of a list is one list with it
 abbrev pub DerivedAreWellFormed : Type 0

@@ -1,5 +1,5 @@
 -- Each symbol has a short end, and where a foreign terminal stops, an integer says why.
-use Rattle.std.proofs.Common.{◌≡◌, ℕ, pos, suc, ◌+◌, ◌==◌, ◌≤◌, List, [], ◌∷◌, length, Bool, true, false, not, if◌then◌else◌, refl, ap, sym, ◌∙◌, arith}
+use Rattle.std.proofs.Common.{◌≡◌, ℕ, pos, suc, ◌+◌, ◌≤◌, List, [], ◌∷◌, length, Bool, true, false, not, if◌then◌else◌, refl, ap, sym, ◌∙◌, arith}
 use Rattle.hipe_terms.specs.declared.place.Place.{Place}
 use Rattle.hipe_terms.specs.declared.constant.Constant.TheOpen.{Constant-F}
 use Rattle.core_ast.specs.declared.pattern.Var.{Var}

@@ -6,7 +6,7 @@ use Rattle.hipe_terms.specs.declared.place.Place.{Place}
 use Rattle.core_grammar.specs.declared.fault.Fault.{Fault}
 use Rattle.core_grammar.specs.declared.terminal.Terminal.{Terminal}
 use Rattle.core_grammar.specs.Leave.{Need, part, variable_operand, argument, Leave}
-use Rattle.core_grammar.specs.Language.{limit, any, any_operand, within}
+use Rattle.core_grammar.specs.Language.{Derivation, limit, any, any_operand, within, Viable, Fine}
 use Rattle.core_parser.specs.declared.moved.Wanted.{Wanted}
 use Rattle.core_parser.specs.declared.symbol.Symbol.{Symbol}
 use Rattle.core_parser.specs.declared.value.Value.{Value}
@@ -59,6 +59,11 @@ or_true false b h = h
 
 le_is : (a b : ℕ) → a ≤ b → nat_le a b ≡ true
 le_is a b h = grind (arith, nat_tests)
+
+-- the machine reads a language from a start: what is derived is read, and what the start means is derived
+pub record Reads (A : Type 0) (D : Derivation A) (value : A → Value) (start : Symbols) : Type 0 where
+  pub complete : (ok : Leave) (z : Place) (ts : List Terminal) (a : A) → D ok ts a → run ok z start [] ts ≡ Ok (value a ∷ [])
+  pub holds : (ok : Leave) (ts : List Terminal) → Holds ok start ts → (a : A) × D ok ts a
 
 module _ (z : Place) where
   gone_ok : (ok : Leave) (m : Move) (t : Terminal) (ts : List Terminal) (ws : Values) (X : Type 0) → Backs ok m t ts X → ((ss : Symbols) (vs : Values) → run ok z ss vs ts ≡ Ok ws → Holds ok ss ts) → gone m (λ needs. all_ok ok needs (t ∷ ts)) t.kind t.at (λ ss vs. run ok z ss vs ts) ≡ Ok ws → X
@@ -169,70 +174,65 @@ module _ (z : Place) where
         tested false b l rest h = ap (λ b. b && all_ok (within n (length ws)) needs (t ∷ ws)) l
 
     -- a language that the machine reads from a start
-    module _ (X : Type 0) (D : Leave → List Terminal → X → Type 0) (value : X → Value) (start : Symbols) (complete : (ok : Leave) (ts : List Terminal) (x : X) → D ok ts x → run ok z start [] ts ≡ Ok (value x ∷ [])) (holds : (ok : Leave) (ts : List Terminal) → Holds ok start ts → (x : X) × D ok ts x) where
+    module _ (A : Type 0) (D : Derivation A) (value : A → Value) (start : Symbols) (reads : Reads A D value start) where
       -- some text goes on, with no part above the limit that begins in these terminals
-      pub fine_of : (us : List Terminal) (ss' : Symbols) (vs' : Values) → Path start [] us ss' vs' → (ws : List Terminal) × (x : X) × D (within n (length ws)) (us ++ ws) x
+      pub fine_of : (us : List Terminal) (ss' : Symbols) (vs' : Values) → Path start [] us ss' vs' → Fine A D n us
       fine_of us ss' vs' p =
           let ws = ending z ss' in
           let ok = within n (length ws) in
           let h : Holds ok ss' ws = ends z ok (length ws) (λ k xs le. or_true (nat_le k n) _ (le_is (length xs) (length ws) le)) (λ i xs le. or_true (nat_le i ARITY_LIMIT) _ (le_is (length xs) (length ws) le)) ss' (omega arith) in
-          let d = holds ok (us ++ ws) (p.back ok (within_is_wider (length ws)) ws h) in
+          let d = reads.holds ok (us ++ ws) (p.back ok (within_is_wider (length ws)) ws h) in
           (ws, d.0, d.1)
 
       -- some text goes on, whatever the levels
-      pub viable_of : (us : List Terminal) (ss' : Symbols) (vs' : Values) → Path start [] us ss' vs' → (ws : List Terminal) × (x : X) × D any (us ++ ws) x
+      pub viable_of : (us : List Terminal) (ss' : Symbols) (vs' : Values) → Path start [] us ss' vs' → Viable A D any us
       viable_of us ss' vs' p =
           let ws = ending z ss' in
           let h : Holds any ss' ws = ends z any (length ws) (λ k xs le. refl) (λ i xs le. refl) ss' (omega arith) in
-          let d = holds any (us ++ ws) (p.back any (loose_is_wider any any_loose) ws h) in
+          let d = reads.holds any (us ++ ws) (p.back any (loose_is_wider any any_loose) ws h) in
           (ws, d.0, d.1)
 
       -- some text goes on with a terminal that the machine takes
-      pub goes_on : (ok : Leave) → Loose ok → (us : List Terminal) (t : Terminal) (ss' ss2 : Symbols) (vs' vs2 : Values) (needs : List Need) → Path start [] us ss' vs' → move ss' vs' t.kind t.at ≡ Go ss2 vs2 needs → ((xs : List Terminal) → all_ok ok needs xs ≡ true) → (ws : List Terminal) × (x : X) × D ok ((us ++ t ∷ []) ++ ws) x
+      pub goes_on : (ok : Leave) → Loose ok → (us : List Terminal) (t : Terminal) (ss' ss2 : Symbols) (vs' vs2 : Values) (needs : List Need) → Path start [] us ss' vs' → move ss' vs' t.kind t.at ≡ Go ss2 vs2 needs → ((xs : List Terminal) → all_ok ok needs xs ≡ true) → Viable A D ok (us ++ t ∷ [])
       goes_on ok l us t ss' ss2 vs' vs2 needs path e all =
           let ws = ending z ss2 in
           let h : Holds ok ss2 ws = ends z ok (length ws) (λ k xs le. l.parts k xs) (λ i xs le. l.arguments i xs) ss2 (omega arith) in
           let b : Backs ok (Go ss2 vs2 needs) t ws (Holds ok ss' (t ∷ ws)) = subst (λ (m : Move). Backs ok m t ws (Holds ok ss' (t ∷ ws))) e (move_back ok ss' vs' t.kind t.at ws) in
-          let d = holds ok (us ++ t ∷ ws) (path.back ok (loose_is_wider ok l) (t ∷ ws) (b (all (t ∷ ws)) h)) in
+          let d = reads.holds ok (us ++ t ∷ ws) (path.back ok (loose_is_wider ok l) (t ∷ ws) (b (all (t ∷ ws)) h)) in
           (ws, d.0, subst (λ (xs : List Terminal). D ok xs d.0) (sym (regroup us t ws)) d.1)
 
       -- no text goes on where the machine's answer is a refusal
-      pub never : (ok : Leave) → Wider ok → (us : List Terminal) (t : Terminal) (ss' : Symbols) (vs' : Values) → Path start [] us ss' vs' → (ws : List Terminal) (x : X) (f : Fault × Place) → run ok z ss' vs' (t ∷ ws) ≡ Err f → D ok ((us ++ t ∷ []) ++ ws) x → ⊥
+      pub never : (ok : Leave) → Wider ok → (us : List Terminal) (t : Terminal) (ss' : Symbols) (vs' : Values) → Path start [] us ss' vs' → (ws : List Terminal) (x : A) (f : Fault × Place) → run ok z ss' vs' (t ∷ ws) ≡ Err f → D ok ((us ++ t ∷ []) ++ ws) x → ⊥
       never ok w us t ss' vs' path ws x f e d =
-          let a : run ok z start [] (us ++ t ∷ ws) ≡ Ok (value x ∷ []) = ap (run ok z start []) (sym (regroup us t ws)) ∙ complete ok ((us ++ t ∷ []) ++ ws) x d in
+          let a : run ok z start [] (us ++ t ∷ ws) ≡ Ok (value x ∷ []) = ap (run ok z start []) (sym (regroup us t ws)) ∙ reads.complete ok z ((us ++ t ∷ []) ++ ws) x d in
           let b : run ok z start [] (us ++ t ∷ ws) ≡ run ok z ss' vs' (t ∷ ws) = path.reach ok w (t ∷ ws) in
           let c : refused_as f ≡ read_as (value x ∷ []) = sym e ∙ sym b ∙ a in
           cc
 
       -- .. as where there is no move
-      pub stuck : (ok : Leave) → Wider ok → (us : List Terminal) (t : Terminal) (ss' : Symbols) (vs' : Values) (wanted : Wanted) → Path start [] us ss' vs' → move ss' vs' t.kind t.at ≡ No wanted → (ws : List Terminal) × (x : X) × D ok ((us ++ t ∷ []) ++ ws) x → ⊥
+      pub stuck : (ok : Leave) → Wider ok → (us : List Terminal) (t : Terminal) (ss' : Symbols) (vs' : Values) (wanted : Wanted) → Path start [] us ss' vs' → move ss' vs' t.kind t.at ≡ No wanted → Viable A D ok (us ++ t ∷ []) → ⊥
       stuck ok w us t ss' vs' wanted path e v =
           never ok w us t ss' vs' path v.0 v.1 (why t.kind wanted, t.at) (ap (λ m. gone m (λ needs. all_ok ok needs (t ∷ v.0)) t.kind t.at (λ ss vs. run ok z ss vs v.0)) e) v.2
 
-      pub stuck_within : (us : List Terminal) (t : Terminal) (ss' : Symbols) (vs' : Values) (wanted : Wanted) → Path start [] us ss' vs' → move ss' vs' t.kind t.at ≡ No wanted → (ws : List Terminal) × (x : X) × D (within n (length ws)) ((us ++ t ∷ []) ++ ws) x → ⊥
-      stuck_within us t ss' vs' wanted path e v =
-          let ok = within n (length v.0) in
-          never ok (within_is_wider (length v.0)) us t ss' vs' path v.0 v.1 (why t.kind wanted, t.at) (ap (λ m. gone m (λ needs. all_ok ok needs (t ∷ v.0)) t.kind t.at (λ ss vs. run ok z ss vs v.0)) e) v.2
-
       -- .. or no leave
-      pub not_allowed : (ok : Leave) → Wider ok → (us : List Terminal) (t : Terminal) (ss' ss2 : Symbols) (vs' vs2 : Values) (needs : List Need) → Path start [] us ss' vs' → move ss' vs' t.kind t.at ≡ Go ss2 vs2 needs → (ws : List Terminal) → all_ok ok needs (t ∷ ws) ≡ false → (x : X) → D ok ((us ++ t ∷ []) ++ ws) x → ⊥
+      pub not_allowed : (ok : Leave) → Wider ok → (us : List Terminal) (t : Terminal) (ss' ss2 : Symbols) (vs' vs2 : Values) (needs : List Need) → Path start [] us ss' vs' → move ss' vs' t.kind t.at ≡ Go ss2 vs2 needs → (ws : List Terminal) → all_ok ok needs (t ∷ ws) ≡ false → (x : A) → D ok ((us ++ t ∷ []) ++ ws) x → ⊥
       not_allowed ok w us t ss' ss2 vs' vs2 needs path e ws denied x d =
           never ok w us t ss' vs' path ws x (why_not needs, t.at)
           (ap (λ m. gone m (λ needs. all_ok ok needs (t ∷ ws)) t.kind t.at (λ ss vs. run ok z ss vs ws)) e
           ∙ ap (λ b. if b then run ok z ss2 vs2 ws else Err (why_not needs, t.at)) denied) d
 
-      pub too_deep : (us : List Terminal) (t : Terminal) (as' : List Terminal) (ss' ss2 : Symbols) (vs' vs2 : Values) (needs : List Need) → Path start [] us ss' vs' → move ss' vs' t.kind t.at ≡ Go ss2 vs2 needs → all_ok (limit n) needs as' ≡ false → (ws : List Terminal) × (x : X) × D (within n (length ws)) ((us ++ t ∷ []) ++ ws) x → ⊥
+      pub too_deep : (us : List Terminal) (t : Terminal) (as' : List Terminal) (ss' ss2 : Symbols) (vs' vs2 : Values) (needs : List Need) → Path start [] us ss' vs' → move ss' vs' t.kind t.at ≡ Go ss2 vs2 needs → all_ok (limit n) needs as' ≡ false → Fine A D n (us ++ t ∷ []) → ⊥
       too_deep us t as' ss' ss2 vs' vs2 needs path e over v = not_allowed (within n (length v.0)) (within_is_wider (length v.0)) us t ss' ss2 vs' vs2 needs path e v.0 (shorter needs t v.0 as' over) v.1 v.2
 
       -- at the text's end
-      pub not_at_end : (ts : List Terminal) (s : Symbol) (ss' : Symbols) (vs' : Values) → Path start [] ts (s ∷ ss') vs' → (x : X) → D any ts x → ⊥
+      pub not_at_end : (ts : List Terminal) (s : Symbol) (ss' : Symbols) (vs' : Values) → Path start [] ts (s ∷ ss') vs' → (x : A) → D any ts x → ⊥
       not_at_end ts s ss' vs' path x d =
           let a : run any z start [] (ts ++ []) ≡ run any z (s ∷ ss') vs' [] = path.reach any (loose_is_wider any any_loose) [] in
-          let b : refused_as (Fault.Syntax, z) ≡ read_as (value x ∷ []) = sym a ∙ ap (run any z start []) (append-nil ts) ∙ complete any ts x d in
+          let b : refused_as (Fault.Syntax, z) ≡ read_as (value x ∷ []) = sym a ∙ ap (run any z start []) (append-nil ts) ∙ reads.complete any z ts x d in
           cc
 
       -- what is read is derived
-      pub read_is_derived : (ok : Leave) (ts : List Terminal) (ws : Values) → run ok z start [] ts ≡ Ok ws → (x : X) × D ok ts x × (ws ≡ value x ∷ [])
+      pub read_is_derived : (ok : Leave) (ts : List Terminal) (ws : Values) → run ok z start [] ts ≡ Ok ws → (a : A) × (ws ≡ value a ∷ []) × D ok ts a
       read_is_derived ok ts ws h =
-          let d = holds ok ts (sound_run ok ts start [] ws h) in
-          (d.0, d.1, one_value (sym h ∙ complete ok ts d.0 d.1))
+          let d = reads.holds ok ts (sound_run ok ts start [] ws h) in
+          (d.0, one_value (sym h ∙ reads.complete ok z ts d.0 d.1), d.1)

@@ -1,5 +1,5 @@
 -- Where a move leads, the grammar leads: clauses, definitions, calls, and every symbol.
-use Rattle.std.proofs.Common.{◌≡◌, ℕ, ◌+◌, ◌==◌, List, [], ◌∷◌, Bool, true, false, if◌then◌else◌, refl, sym, subst}
+use Rattle.std.proofs.Common.{◌≡◌, ℕ, ◌+◌, List, [], ◌∷◌, Bool, true, false, if◌then◌else◌, refl, sym, subst}
 use denote.Enum.Bare.{same_true}
 use Rattle.hipe_terms.specs.declared.place.Place.{Place}
 use Rattle.core_ast.specs.declared.pattern.Var.{Var}

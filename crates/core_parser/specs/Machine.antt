@@ -1,5 +1,5 @@
 -- The machine: what a terminal does to the symbols that are to come and to the values that were read.
-use Rattle.std.specs.Prelude.{ℕ, pos, ◌+◌, ◌==◌, List, [], ◌∷◌, Bool, true, false, ◌&&◌, if◌then◌else◌, Result, Ok, Err}
+use Rattle.std.specs.Prelude.{ℕ, pos, ◌+◌, List, [], ◌∷◌, Bool, true, false, ◌&&◌, if◌then◌else◌, Result, Ok, Err}
 use Rattle.hipe_terms.specs.declared.place.Place.{Place}
 use Rattle.hipe_terms.specs.declared.constant.Constant.TheOpen.{Constant-F}
 use Rattle.hipe_terms.specs.declared.constant.Call.{Call}
@@ -483,10 +483,19 @@ moved (Moved.Stuck wanted) ss vs = No wanted
 
 -- a run as an answer
 
-abbrev pub module_read : Answer → Result Module (Fault × Place)
-module_read (Ok vs) = Ok (to_module (top vs))
-module_read (Err x) = Err x
+abbrev pub tree_read : (A : Type 0) → (Values → A) → Answer → Result A (Fault × Place)
+tree_read A tree (Ok vs) = Ok (tree vs)
+tree_read A tree (Err x) = Err x
 
-abbrev pub call_read : Answer → Result Call Place
-call_read (Ok vs) = Ok (to_call (top vs))
-call_read (Err x) = Err x.1
+-- the module, and the call, that stands on top
+abbrev pub top_module : Values → Module
+top_module vs = to_module (top vs)
+
+abbrev pub top_call : Values → Call
+top_call vs = to_call (top vs)
+
+abbrev pub module_read : Answer → Result Module (Fault × Place)
+module_read = tree_read Module top_module
+
+abbrev pub call_read : Answer → Result Call (Fault × Place)
+call_read = tree_read Call top_call

@@ -21,7 +21,7 @@ use Rattle.core_reader.specs.Reading.{as_module, module_of_tokens, module_of, Fo
 use Rattle.core_reader.proofs.Unique.{one_reading, refused_reads_none, one_reading_of_call, refused_reads_no_call}
 
 module _ (s : List ℕ) where
-  of_run : (ts : List Token) → AreTokensOf s ts → (r : Answer) → G.IsAnswer LEVEL_LIMIT (end_of s) (terminals_of s ts) (module_read r) → IsAnswer s (as_module r)
+  of_run : (ts : List Token) → AreTokensOf s ts → (r : Answer) → G.IsModuleAnswer LEVEL_LIMIT (end_of s) (terminals_of s ts) (module_read r) → IsAnswer s (as_module r)
   of_run ts t (Ok vs) h = (ts, t, h)
   of_run ts t (Err (f, p)) h = no_module ts f p t h
 
@@ -64,7 +64,7 @@ some_answer s = (module_of s, module_found s)
 module _ (s : List ℕ) where
   of_call_run : (ts : List Token) → AreTokensOf s ts → (r : Answer) → G.IsCallAnswer LEVEL_LIMIT (end_of s) (terminals_of s ts) (call_read r) → IsCallAnswer s (as_call r)
   of_call_run ts t (Ok vs) h = (ts, t, h)
-  of_call_run ts t (Err (f, p)) h = no_call ts p t h
+  of_call_run ts t (Err (f, p)) h = no_call ts f p t h
 
   of_call_tokens : (r : T.Reading) → T.read s ≡ r → IsCallAnswer s (call_of_tokens s r)
   of_call_tokens (Ok ts) h = of_call_run ts (tokens_read s ts h) (run (limit LEVEL_LIMIT) (end_of s) call_start [] (terminals_of s ts)) (reads_calls LEVEL_LIMIT (end_of s) (terminals_of s ts))

@@ -1,5 +1,6 @@
 -- Lemmas of the reader.
 pub mod Answering
+pub mod Meanings
 pub mod Ranges
 pub mod Running
 mod Tables

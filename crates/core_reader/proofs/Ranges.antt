@@ -44,7 +44,7 @@ digit_is_no_sign : (c : ℕ) → is_digit c ≡ true → ((c == 45) ≡ false) �
 digit_is_no_sign c h = (grind arith, grind arith)
 
 -- an integer that begins with a digit isn't negative
-unsigned : (cs : List ℕ) (n : ℤ) → begins is_digit cs ≡ true → integer_of cs ≡ Some n → n ≡ pos (nat_abs n)
+pub unsigned : (cs : List ℕ) (n : ℤ) → begins is_digit cs ≡ true → integer_of cs ≡ Some n → n ≡ pos (nat_abs n)
 unfolding integer_of
 unsigned [] n h e = absurd (cc)
 unsigned (c ∷ s) n h e =

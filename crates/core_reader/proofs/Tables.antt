@@ -3,7 +3,7 @@ use Rattle.std.proofs.Common.{◌≡◌, ℕ, List, [], ◌∷◌, ◌++◌, map
 use Rattle.core_token.specs.Lexemes as L
 use Rattle.core_reader.specs.Terminals.{Row, keywords, signs}
 
-abbrev spellings : List Row → List (List ℕ)
+abbrev pub spellings : List Row → List (List ℕ)
 spellings rows = map (λ (row : Row). row.0) rows
 
 all_keywords : spellings keywords ≡ L.keywords

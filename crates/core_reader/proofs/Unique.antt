@@ -6,7 +6,7 @@ use Rattle.core_token.specs.declared.token.TokenKind.{TokenKind}
 use Rattle.core_token.proofs.Cuts.{unique}
 use Rattle.core_ast.specs.declared.tree.Module.{Module}
 use Rattle.core_grammar.specs.declared.fault.Fault.{Fault}
-use Rattle.core_grammar.specs.Language.{limit, Derives, DerivesCall, Refused, RefusedCall}
+use Rattle.core_grammar.specs.Language.{limit, Derives, DerivesCall, RefusedModule, RefusedCall}
 use Rattle.core_parser.proofs.OneAnswer as M
 use Rattle.core_parser.proofs.Modules.{one_module, one_call}
 use Rattle.hipe_base.specs.declared.limits.TheConstants.{LEVEL_LIMIT}
@@ -23,7 +23,7 @@ one_reading s m n (ts, t, d) (us, u, e) =
 pub refused_reads_none : RefusedReadsNone
 refused_reads_none s _ (no_tokens k p h) m (us, u, d) = unique.not_both s us k p u h
 refused_reads_none s _ (no_module ts f p t r) m (us, u, d) =
-    M.refused_derives_none LEVEL_LIMIT (end_of s) (terminals_of s ts) f p r m (subst (λ xs. Derives (limit LEVEL_LIMIT) (terminals_of s xs) m) (unique.one_list s us ts u t) d)
+    M.refused_derives_no_module LEVEL_LIMIT (end_of s) (terminals_of s ts) f p r m (subst (λ xs. Derives (limit LEVEL_LIMIT) (terminals_of s xs) m) (unique.one_list s us ts u t) d)
 
 same_fault : (k l : TokenKind) (p q : Place) → (k ≡ l) × (p ≡ q) → token_refusal k p ≡ token_refusal l q
 same_fault k l p q (a, b) = ap (λ x. token_refusal x p) a ∙ ap (λ x. token_refusal l x) b
@@ -39,8 +39,8 @@ one_refusal s _ _ (no_tokens k p h) (no_tokens l q g) = same_fault k l p q (uniq
 one_refusal s _ _ (no_tokens k p h) (no_module us g q u r) = absurd (unique.not_both s us k p u h)
 one_refusal s _ _ (no_module ts f p t r) (no_tokens l q g) = absurd (unique.not_both s ts l q t g)
 one_refusal s _ _ (no_module ts f p t r) (no_module us g q u o) =
-    let same : Refused LEVEL_LIMIT (end_of s) (terminals_of s ts) g q = subst (λ xs. Refused LEVEL_LIMIT (end_of s) (terminals_of s xs) g q) (unique.one_list s us ts u t) o in
-    let two = parts f g p q (Err (f, p)) (Err (g, q)) refl refl (M.one_answer LEVEL_LIMIT (end_of s) (terminals_of s ts) (Err (f, p)) (Err (g, q)) r same) in
+    let same : RefusedModule LEVEL_LIMIT (end_of s) (terminals_of s ts) g q = subst (λ xs. RefusedModule LEVEL_LIMIT (end_of s) (terminals_of s xs) g q) (unique.one_list s us ts u t) o in
+    let two = parts f g p q (Err (f, p)) (Err (g, q)) refl refl (M.one_module_answer LEVEL_LIMIT (end_of s) (terminals_of s ts) (Err (f, p)) (Err (g, q)) r same) in
     same_stop f g p q two.0 two.1
 
 pub one_answer : OneAnswer
@@ -55,19 +55,19 @@ one_reading_of_call s c d (ts, t, x) (us, u, y) =
 
 pub refused_reads_no_call : RefusedReadsNoCall
 refused_reads_no_call s _ (no_call_tokens k p h) c (us, u, d) = unique.not_both s us k p u h
-refused_reads_no_call s _ (no_call ts p t r) c (us, u, d) =
-    M.refused_derives_no_call LEVEL_LIMIT (end_of s) (terminals_of s ts) p r c (subst (λ xs. DerivesCall (limit LEVEL_LIMIT) (terminals_of s xs) c) (unique.one_list s us ts u t) d)
+refused_reads_no_call s _ (no_call ts f p t r) c (us, u, d) =
+    M.refused_derives_no_call LEVEL_LIMIT (end_of s) (terminals_of s ts) f p r c (subst (λ xs. DerivesCall (limit LEVEL_LIMIT) (terminals_of s xs) c) (unique.one_list s us ts u t) d)
 
-call_place : (p q : Place) (a b : Result Call Place) → a ≡ Err p → b ≡ Err q → a ≡ b → p ≡ q
-call_place p q a b d e h = cc
+call_place : (f g : Fault) (p q : Place) (a b : Result Call (Fault × Place)) → a ≡ Err (f, p) → b ≡ Err (g, q) → a ≡ b → p ≡ q
+call_place f g p q a b d e h = let both : ◌≡◌ {A = Fault × Place} (f, p) (g, q) = cc in ap (λ (x : Fault × Place). x.1) both
 
 pub one_place_of_no_call : (s : List ℕ) (p q : Place) → IsNoCall s p → IsNoCall s q → p ≡ q
 one_place_of_no_call s p q (no_call_tokens k _ h) (no_call_tokens l _ g) = (unique.one_fault s k l p q h g).1
-one_place_of_no_call s p q (no_call_tokens k _ h) (no_call us _ u r) = absurd (unique.not_both s us k p u h)
-one_place_of_no_call s p q (no_call ts _ t r) (no_call_tokens l _ g) = absurd (unique.not_both s ts l q t g)
-one_place_of_no_call s p q (no_call ts _ t r) (no_call us _ u o) =
-    let same : RefusedCall LEVEL_LIMIT (end_of s) (terminals_of s ts) q = subst (λ xs. RefusedCall LEVEL_LIMIT (end_of s) (terminals_of s xs) q) (unique.one_list s us ts u t) o in
-    call_place p q (Err p) (Err q) refl refl (M.one_call_answer LEVEL_LIMIT (end_of s) (terminals_of s ts) (Err p) (Err q) r same)
+one_place_of_no_call s p q (no_call_tokens k _ h) (no_call us g _ u r) = absurd (unique.not_both s us k p u h)
+one_place_of_no_call s p q (no_call ts f _ t r) (no_call_tokens l _ g) = absurd (unique.not_both s ts l q t g)
+one_place_of_no_call s p q (no_call ts f _ t r) (no_call us g _ u o) =
+    let same : RefusedCall LEVEL_LIMIT (end_of s) (terminals_of s ts) g q = subst (λ xs. RefusedCall LEVEL_LIMIT (end_of s) (terminals_of s xs) g q) (unique.one_list s us ts u t) o in
+    call_place f g p q (Err (f, p)) (Err (g, q)) refl refl (M.one_call_answer LEVEL_LIMIT (end_of s) (terminals_of s ts) (Err (f, p)) (Err (g, q)) r same)
 
 pub one_call_answer : OneCallAnswer
 one_call_answer s (Ok c) (Ok d) a b = ap (λ x. Ok x) (one_reading_of_call s c d a b)

@@ -8,7 +8,7 @@ use Rattle.core_token.specs.declared.token.TokenKind.{TokenKind}
 use Rattle.core_token.specs.Text.{AreTokensOf, IsRefused}
 use Rattle.core_ast.specs.declared.tree.Module.{Module}
 use Rattle.core_grammar.specs.declared.fault.Fault.{Fault}
-use Rattle.core_grammar.specs.Language.{limit, Derives, DerivesCall, Refused, RefusedCall}
+use Rattle.core_grammar.specs.Language.{limit, Derives, DerivesCall, RefusedModule, RefusedCall}
 use Rattle.hipe_base.specs.declared.limits.TheConstants.{LEVEL_LIMIT}
 use Rattle.core_reader.specs.declared.refusal.ReadRefusal.{ReadRefusal}
 use Rattle.core_reader.specs.declared.refusal.CallRefusal.{CallRefusal}
@@ -37,7 +37,7 @@ fault_refusal Fault.TooDeep p = ReadRefusal.TooDeep p
 -- why and where a text is refused: it has no tokens, or else its terminals are no module
 pub data IsRefusedAs (s : List ℕ) : ReadRefusal → Type 0 where
   no_tokens : (k : TokenKind) (p : Place) → IsRefused s k p → IsRefusedAs s (token_refusal k p)
-  no_module : (ts : List Token) (f : Fault) (p : Place) → AreTokensOf s ts → Refused LEVEL_LIMIT (end_of s) (terminals_of s ts) f p → IsRefusedAs s (fault_refusal f p)
+  no_module : (ts : List Token) (f : Fault) (p : Place) → AreTokensOf s ts → RefusedModule LEVEL_LIMIT (end_of s) (terminals_of s ts) f p → IsRefusedAs s (fault_refusal f p)
 
 -- what the reader answers, where memory may run out
 abbrev pub Answers : List ℕ → Result Module ReadRefusal → Type 0
@@ -72,7 +72,7 @@ ReadsCall s c = (ts : List Token) × AreTokensOf s ts × DerivesCall (limit LEVE
 -- where a text is no call: it has no tokens from there on, or else its terminals are no call
 pub data IsNoCall (s : List ℕ) : Place → Type 0 where
   no_call_tokens : (k : TokenKind) (p : Place) → IsRefused s k p → IsNoCall s p
-  no_call : (ts : List Token) (p : Place) → AreTokensOf s ts → RefusedCall LEVEL_LIMIT (end_of s) (terminals_of s ts) p → IsNoCall s p
+  no_call : (ts : List Token) (f : Fault) (p : Place) → AreTokensOf s ts → RefusedCall LEVEL_LIMIT (end_of s) (terminals_of s ts) f p → IsNoCall s p
 
 abbrev pub AnswersCall : List ℕ → Result Call CallRefusal → Type 0
 AnswersCall s (Ok c) = ReadsCall s c

@@ -1,10 +1,17 @@
 -- Each text has one answer.
-use Rattle.std.specs.Prelude.{◌≡◌, ℕ, List, Result, Ok, Err}
+use Rattle.std.specs.Prelude.{◌≡◌, ℕ, List, All, Result, Ok, Err}
 use Rattle.hipe_terms.specs.declared.constant.Call.{Call}
 use Rattle.hipe_terms.specs.declared.place.Place.{Place}
+use Rattle.core_token.specs.declared.token.Token.{Token}
+use Rattle.core_token.specs.Text.{AreTokensOf}
 use Rattle.core_ast.specs.declared.tree.Module.{Module}
 use Rattle.core_reader.specs.declared.refusal.ReadRefusal.{ReadRefusal}
+use Rattle.core_reader.specs.Meanings.{TerminalMeans}
 use Rattle.core_reader.specs.Language.{Reads, ReadsNone, IsRefusedAs, ReadsCall, IsNoCall}
+
+-- each terminal of a text means what its token spells
+abbrev pub TerminalsMean : Type 0
+TerminalsMean = (s : List ℕ) (ts : List Token) → AreTokensOf s ts → All (TerminalMeans s) ts
 
 -- what a text is read as: a module, or why and where it is refused
 abbrev pub IsAnswer : List ℕ → Result Module ReadRefusal → Type 0

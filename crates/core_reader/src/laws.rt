@@ -1,6 +1,20 @@
 // What holds of all texts.
 
-ghost use Rattle.core_reader.specs.Laws.{SomeAnswer, OneAnswer, RefusedReadsNone, SomeCallAnswer, OneCallAnswer, RefusedReadsNoCall};
+ghost use Rattle.core_reader.specs.Laws.{
+  TerminalsMean,
+  SomeAnswer,
+  OneAnswer,
+  RefusedReadsNone,
+  SomeCallAnswer,
+  OneCallAnswer,
+  RefusedReadsNoCall,
+};
+
+/// The terminal of each token of a text stands where the token does, and has the number, the code points, the name or the mark
+/// that the token's bytes spell: no value stands in for one that isn't there.
+pub fn terminals_mean()
+    ensures { TerminalsMean }
+{}
 
 /// A text reads as one module, places included, or it is refused, and where it is refused it reads as no module, the refusal
 /// and its place are one.
