@@ -18,7 +18,7 @@ use Rattle.core_grammar.specs.Trees.{constant_of, constant_cells_before, constan
 use Rattle.core_grammar.specs.Language.{limit}
 use Rattle.core_grammar.specs.Grammar as G
 use Rattle.core_round_trip.proofs.TreeKinds.{Kinds, next, term_kinds, tail_kinds, terms_kinds, terms_behind, attribute_kinds, attributes_behind, attributes_kinds}
-use Rattle.core_round_trip.proofs.Fits.{At, TermFits, TermsFit, AttributesFit}
+use Rattle.core_round_trip.specs.Fits.{At, TermFits, TermsFit, AttributesFit}
 use Rattle.core_round_trip.proofs.Readings.{Reading, ReadingTo, up_to, integer_is}
 
 -- ---- constants that are made

@@ -6,7 +6,7 @@ use Rattle.core_grammar.specs.declared.terminal.Kind.{Kind}
 use Rattle.core_grammar.specs.declared.terminal.Mark.{Mark}
 use Rattle.core_print.specs.Printed.{Piece, sign, after_comma, with_commas, opened, enclosed, arrow, equals, tail_pieces, variable_pieces, alias_pieces, binders, spaced_pieces, block_pieces, next_pieces, let_pieces, in_pieces, of_pieces, clause_pieces, fun_pieces, definition_pieces, call_pieces, primop_pieces, branch_pieces}
 use Rattle.core_round_trip.proofs.TreeKinds.{name_kinds, variables_behind, variables_kinds, binders_kinds, list_end}
-use Rattle.core_round_trip.proofs.Fits.{IsAtomName, IsVariableName, IsName, AreVariables}
+use Rattle.core_round_trip.specs.Fits.{IsAtomName, IsVariableName, IsName, AreVariables}
 use Rattle.core_round_trip.proofs.PieceKinds.{Prefix, Closed, Open, Starts, Keeps, as_open, closed_closed, closed_open, open_closed, open_open, none, none_keeps, a_space, space_starts, a_line, line_starts, an_atom, a_variable, a_name, IsKeywordOf, call_keyword, end_keyword, fun_keyword, in_keyword, let_keyword, of_keyword, primop_keyword, when_keyword, open_round, close_round, close_square, less, greater, comma, equals_sign, colon, bar, arrow_sign}
 
 -- ---- lists

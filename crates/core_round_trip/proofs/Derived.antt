@@ -29,7 +29,8 @@ use Rattle.core_grammar.specs.Trees.{constant_of, constant_cells_before, constan
 use Rattle.core_grammar.specs.Ranges.{code_points_in_range}
 use Rattle.core_grammar.specs.Language.{limit, Derives}
 use Rattle.core_grammar.specs.Grammar as G
-use Rattle.core_round_trip.proofs.Fits.{IsAtomName, IsVariableName, AreGood, IsName, AreVariables, At, TermFits, TermsFit, HasPattern, PatternFits, PatternsFit, HasExpression, HasClause, Fits, AllFit, ClausesFit, DefinitionsFit, ExportsFit, AttributesFit, ModuleFits}
+use Rattle.core_round_trip.specs.Fits.{IsAtomName, IsVariableName, IsName, AreVariables, At, TermFits, TermsFit, HasPattern, PatternFits, PatternsFit, HasExpression, HasClause, Fits, AllFit, ClausesFit, DefinitionsFit, ExportsFit, AttributesFit, ModuleFits}
+use Rattle.core_round_trip.proofs.GoodKinds.{AreGood}
 use Rattle.core_round_trip.proofs.Made.{pattern_made, plain_patterns, expression_made, plain_expressions, clause_made, fun_made, definition_made, plain_clauses, plain_definitions}
 
 -- a lesser level

@@ -21,7 +21,7 @@ use Rattle.core_grammar.specs.Language.{limit}
 use Rattle.core_grammar.specs.Grammar as G
 use Rattle.core_print.specs.Printed.{is_nil}
 use Rattle.core_round_trip.proofs.TreeKinds.{Kinds, next, list_end, variables_kinds, binders_kinds, patterns_kinds, kinds, kinds_of_all, kinds_behind, clauses_kinds, definitions_kinds}
-use Rattle.core_round_trip.proofs.Fits.{At, PatternsFit, HasExpression, HasClause, Fits, AllFit, ClausesFit, DefinitionsFit}
+use Rattle.core_round_trip.specs.Fits.{At, PatternsFit, HasExpression, HasClause, Fits, AllFit, ClausesFit, DefinitionsFit}
 use Rattle.core_round_trip.proofs.Made.{expression_made, plain_expressions, cells_made, same_list, clause_made, fun_made, definition_made, plain_clauses, plain_definitions}
 use Rattle.core_round_trip.proofs.Readings.{Reading, ReadingTo, up_to, integer_is, name_reading, SameVariables, variables_reading, binders_reading}
 use Rattle.core_round_trip.proofs.PatternReading.{SamePatterns, patterns_reading}

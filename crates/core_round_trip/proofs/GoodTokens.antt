@@ -20,7 +20,8 @@ use Rattle.core_grammar.specs.declared.terminal.Kind.{Kind}
 use Rattle.core_grammar.specs.declared.terminal.Mark.{Mark}
 use Rattle.core_grammar.specs.declared.terminal.Terminal.{Terminal}
 use Rattle.core_grammar.specs.Ranges.{code_points_in_range, kind_in_range, terminals_in_range}
-use Rattle.core_round_trip.proofs.Fits.{IsInRange, IsGoodKind, AreGood}
+use Rattle.core_round_trip.specs.Fits.{IsInRange}
+use Rattle.core_round_trip.proofs.GoodKinds.{IsGoodKind, AreGood}
 use Rattle.core_reader.specs.Terminals.{number_of, or_zero, or_nul, marked, keyword_of, sign_of, kind_of, terminals_of}
 
 both : (a b : Bool) → a ≡ true → b ≡ true → (a && b) ≡ true

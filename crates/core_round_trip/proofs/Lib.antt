@@ -1,6 +1,6 @@
 -- Lemmas of printing and reading.
 mod TreeKinds
-mod Fits
+mod GoodKinds
 mod Made
 mod Placeless
 mod Readings

@@ -15,7 +15,7 @@ use Rattle.core_grammar.specs.Leave.{mark}
 use Rattle.core_grammar.specs.Language.{limit, Derives}
 use Rattle.core_grammar.specs.Grammar as G
 use Rattle.core_round_trip.proofs.TreeKinds.{Kinds, nothing, next, attributes_kinds, definitions_kinds, module_kinds}
-use Rattle.core_round_trip.proofs.Fits.{ModuleFits}
+use Rattle.core_round_trip.specs.Fits.{ModuleFits}
 use Rattle.core_round_trip.proofs.Made.{plain_definitions}
 use Rattle.core_round_trip.proofs.Readings.{ReadingTo, up_to, SameExports, exports_reading}
 use Rattle.core_round_trip.proofs.ConstantReading.{attributes_reading}

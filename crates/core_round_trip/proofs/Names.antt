@@ -18,7 +18,7 @@ use Rattle.core_token.specs.Spelling.{quoted as quoted_atom, Spells, atom}
 use Rattle.core_token.specs.Values.{code_points_of}
 use Rattle.core_token.proofs.Valued.{atom_there}
 use Rattle.core_grammar.specs.declared.terminal.Kind.{Kind}
-use Rattle.core_round_trip.proofs.Fits.{IsAtomName}
+use Rattle.core_round_trip.specs.Fits.{IsAtomName}
 use Rattle.core_round_trip.proofs.Tokens.{AreAscii, ascii_utf8}
 use Rattle.core_round_trip.proofs.Numerals.{hex_digits}
 

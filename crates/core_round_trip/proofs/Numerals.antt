@@ -15,7 +15,7 @@ use Rattle.core_text.proofs.Fractions.{no_fraction}
 use Rattle.core_token.specs.declared.token.Sort.{Sort}
 use Rattle.core_token.proofs.Spelled.{most, in_range}
 use Rattle.core_token.proofs.Valued.{integer_there}
-use Rattle.core_round_trip.proofs.Fits.{IsInRange}
+use Rattle.core_round_trip.specs.Fits.{IsInRange}
 use Rattle.core_round_trip.proofs.TreeKinds.{integer_kind}
 use Rattle.core_reader.specs.Terminals.{number_of, or_zero, kind_of}
 

@@ -15,7 +15,7 @@ use Rattle.core_grammar.specs.Language.{limit}
 use Rattle.core_grammar.specs.Grammar as G
 use Rattle.core_print.specs.Printed.{is_nil_pattern}
 use Rattle.core_round_trip.proofs.TreeKinds.{Kinds, next, list_end, pattern_kinds, patterns_kinds, patterns_behind}
-use Rattle.core_round_trip.proofs.Fits.{At, HasPattern, PatternFits, PatternsFit}
+use Rattle.core_round_trip.specs.Fits.{At, HasPattern, PatternFits, PatternsFit}
 use Rattle.core_round_trip.proofs.Made.{pattern_made, plain_patterns, pattern_cells_made, same_list_pattern}
 use Rattle.core_round_trip.proofs.Readings.{Reading, ReadingTo, up_to, integer_is}
 

@@ -13,7 +13,7 @@ use Rattle.core_grammar.specs.declared.terminal.Kind.{Kind}
 use Rattle.core_grammar.specs.declared.terminal.Mark.{Mark}
 use Rattle.core_print.specs.Printed.{Piece, spelled, text_of, atom, variable, integer, keyword, sign, space, line, name_pieces}
 use Rattle.core_round_trip.proofs.TreeKinds.{integer_kind, name_kinds}
-use Rattle.core_round_trip.proofs.Fits.{IsInRange, IsAtomName, IsVariableName, IsName}
+use Rattle.core_round_trip.specs.Fits.{IsInRange, IsAtomName, IsVariableName, IsName}
 use Rattle.core_reader.specs.Terminals.{marked, keyword_of, sign_of}
 use Rattle.core_round_trip.proofs.Tokens.{HasKinds, AreAscii, ascii_utf8, after_space, after_line, after_token}
 use Rattle.core_round_trip.proofs.Numerals.{IsApart, no_name_byte, integer_spelled, integer_kind_is, integer_utf8}

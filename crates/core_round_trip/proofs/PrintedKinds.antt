@@ -9,7 +9,7 @@ use Rattle.core_grammar.specs.declared.terminal.Kind.{Kind}
 use Rattle.core_grammar.specs.declared.terminal.Mark.{Mark}
 use Rattle.core_print.specs.Printed.{deeper, after_comma, with_commas, is_nil_pattern, pattern_pieces, each_pattern, is_nil, pieces, each, clause_pieces, clauses_pieces, definition_pieces, definitions_pieces, export_pieces, attribute_pieces, head_pieces, attributes_pieces, module_pieces, printed}
 use Rattle.core_round_trip.proofs.TreeKinds.{pattern_kinds, patterns_kinds, patterns_behind, kinds, kinds_of_all, kinds_behind, clauses_kinds, definitions_kinds, exports_behind, exports_kinds, attribute_kinds, attributes_behind, attributes_kinds, module_kinds}
-use Rattle.core_round_trip.proofs.Fits.{PatternFits, PatternsFit, Fits, AllFit, ClausesFit, DefinitionsFit, ExportsFit, AttributesFit, ModuleFits}
+use Rattle.core_round_trip.specs.Fits.{PatternFits, PatternsFit, Fits, AllFit, ClausesFit, DefinitionsFit, ExportsFit, AttributesFit, ModuleFits}
 use Rattle.core_round_trip.proofs.Tokens.{HasKinds, at_end}
 use Rattle.core_round_trip.proofs.PieceKinds.{Closed, Open, Keeps, as_open, closed_closed, closed_open, open_closed, open_open, none, none_keeps, a_space, space_starts, a_line, line_starts, an_atom, an_integer, a_variable, a_name, apply_keyword, attributes_keyword, case_keyword, catch_keyword, do_keyword, end_keyword, letrec_keyword, module_keyword, of_keyword, try_keyword, open_brace, close_brace, open_square, close_square, less, greater, comma, equals_sign}
 use Rattle.core_round_trip.proofs.TermKinds.{a_constant}

@@ -15,8 +15,8 @@ use Rattle.core_reader.specs.declared.refusal.ReadRefusal.{ReadRefusal}
 use Rattle.core_ast.specs.SameTree.{SameTree}
 use Rattle.core_reader.specs.Terminals.{terminals_of}
 use Rattle.core_reader.specs.Language.{Answers, Only, Reads, ReadsNone}
-use Rattle.core_round_trip.specs.Laws.{IsOfText, ReadsBack, PrintedReadsBack}
-use Rattle.core_round_trip.proofs.Fits.{ModuleFits}
+use Rattle.core_round_trip.specs.Laws.{IsOfText, ReadsBack, PrintedReadsBack, WithinLimitsReadsBack}
+use Rattle.core_round_trip.specs.Fits.{ModuleFits}
 use Rattle.core_round_trip.proofs.Placeless.{same_printed, same_formed}
 use Rattle.core_round_trip.proofs.Derived.{module_fits}
 use Rattle.core_round_trip.proofs.ModuleReading.{module_reading}
@@ -26,8 +26,8 @@ use Rattle.core_round_trip.proofs.GoodTokens.{tokens_good, goods_in_range}
 attributes_well_formed : (m : Module) → IsWellFormed (module_of m) → well_formed_attributes m.attributes ≡ true
 attributes_well_formed m h = and_second (well_formed_definitions (module_of m).definitions) (well_formed_attributes m.attributes) h
 
-fits_back : (m : Module) → well_formed_attributes m.attributes ≡ true → ModuleFits LEVEL_LIMIT (module_of m) → ReadsBack (printed (module_of m)) m
-fits_back m good fits =
+pub fits_back : WithinLimitsReadsBack
+fits_back m (good, fits) =
     let text = printed (module_of m) in
     let h = printed_kinds LEVEL_LIMIT (module_of m) fits in
     let t = h.tokens text 0 start refl in
@@ -40,7 +40,7 @@ of_text s m ts t d =
     (derived_are_well_formed (limit LEVEL_LIMIT) (terminals_of s ts) m (goods_in_range (terminals_of s ts) good) d, module_fits LEVEL_LIMIT m (terminals_of s ts) d good)
 
 read_back : (s : List ℕ) (m : Module) → Reads s m → ReadsBack (printed (module_of m)) m
-read_back s m (ts, t, d) = let h = of_text s m ts t d in fits_back m (attributes_well_formed m h.0) h.1
+read_back s m (ts, t, d) = let h = of_text s m ts t d in fits_back m (attributes_well_formed m h.0, h.1)
 
 -- a text reads back as a module, and so as another of the same tree
 of_same : (s : List ℕ) (m n : Module) → SameTree m n → ReadsBack s m → ReadsBack s n

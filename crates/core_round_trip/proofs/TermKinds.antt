@@ -7,7 +7,7 @@ use Rattle.core_grammar.specs.declared.terminal.Kind.{Kind}
 use Rattle.core_grammar.specs.declared.terminal.Mark.{Mark}
 use Rattle.core_print.specs.Printed.{Piece}
 use Rattle.core_round_trip.proofs.TreeKinds.{integer_kind, term_kinds, tail_kinds, terms_kinds, terms_behind}
-use Rattle.core_round_trip.proofs.Fits.{TermFits, TermsFit}
+use Rattle.core_round_trip.specs.Fits.{TermFits, TermsFit}
 use Rattle.core_round_trip.proofs.Tokens.{HasKinds}
 use Rattle.core_round_trip.proofs.Numerals.{IsApart}
 use Rattle.core_round_trip.proofs.PieceKinds.{Open, a_constant_by, integer_read, atom_read, open_brace, close_brace, open_square, close_square, comma, bar}

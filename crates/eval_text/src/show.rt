@@ -1,6 +1,6 @@
 // The text of values.
 
-ghost use Rattle.std.specs.Prelude.{◌≡◌, ◌++◌, ◌+◌, ◌<◌, OnOk, string_bytes};
+ghost use Rattle.std.specs.Prelude.{◌≡◌, ◌++◌, ◌+◌, ◌<◌, OnOk, OnErr, string_bytes};
 ghost use Rattle.std.specs.Fmt.{signed_decimal};
 ghost use Rattle.hipe_terms.specs.Shown.{shown, shown_tail, shown_all, shown_more, in_braces, after_bar};
 ghost use Rattle.hipe_terms.specs.Terms.{terms};
@@ -18,9 +18,28 @@ use std::alloc::Global;
 
 /// Appends the text of a value in UTF-8, where the module's definitions name its funs: integers in decimal, atoms in single
 /// quotes with escapes, lists as `[1,2]` or `[1,2|3]` and tuples as `{1,2}`, without spaces, funs as `#Fun<'f'/1>` or
-/// `#Fun<0>`. An error where there is no memory for it.
-#[tactic(auto, using(crate::proofs::Pieces::pieces))]
+/// `#Fun<0>`.
+///
+/// # Errors
+///
+/// `Memory` where there is no memory for the text. What stood there before stays as it was.
 pub fn show_value(
+    alloc: Global,
+    defs: &[FunDef],
+    value: Value<'_>,
+    text: &mut String,
+) -> Result<(), Memory>
+    ensures ok { OnOk result (string_bytes text.new ≡ string_bytes text.old ++ shown (names_of defs.now) (term_in value.entry)) }
+    ensures err { OnErr result (string_bytes text.new ≡ string_bytes text.old) }
+{
+    let mut shown = String::new(alloc);
+    show_pieces(alloc, defs, value, &mut shown)?;
+    text.push_str(shown.as_str())
+}
+
+// Writes the text of a value piece by piece, or a part of it where there is no memory for all of it.
+#[tactic(auto, using(crate::proofs::Pieces::pieces))]
+fn show_pieces(
     alloc: Global,
     defs: &[FunDef],
     value: Value<'_>,

@@ -1,6 +1,6 @@
 // The values of constants.
 
-ghost use Rattle.std.specs.Prelude.{◌≡◌, map, sum, IfOk, IfSome};
+ghost use Rattle.std.specs.Prelude.{◌≡◌, ◌≤◌, ◌^◌, map, sum, IfOk, IfSome, IfNone};
 ghost use Rattle.hipe_terms.specs.Terms.{term_of};
 ghost use Rattle.hipe_terms.specs.Words.{words_of};
 ghost use Rattle.eval_values.specs.Values.{term_in, terms_in};
@@ -51,11 +51,12 @@ pub fn values_of<'a>(
     Ok(values)
 }
 
-/// How many words a constant takes on the heap, or nothing where they don't fit.
+/// How many words a constant takes on the heap, or nothing where they are 2^64 or more.
 #[cycle(words_of)]
 #[tactic(auto, using(crate::proofs::Levels::levels))]
 pub fn words_of(c: &Constant) -> Option<u64>
-    ensures { IfSome result (λ n. n ≡ words_of c.now) }
+    ensures some { IfSome result (λ n. n ≡ words_of c.now) }
+    ensures none { IfNone result (2 ^ 64 ≤ words_of c.now) }
 {
     match c {
         Constant::Int(_) | Constant::Atom(_) | Constant::Nil => Some(0),
@@ -73,11 +74,12 @@ pub fn words_of(c: &Constant) -> Option<u64>
     }
 }
 
-/// How many words these constants take together, or nothing where they don't fit.
+/// How many words these constants take together, or nothing where they are 2^64 or more.
 #[cycle(words_of)]
 #[tactic(auto, using(crate::proofs::Levels::levels))]
 pub fn words_of_all(parts: &[Constant]) -> Option<u64>
-    ensures { IfSome result (λ n. n ≡ sum (map words_of parts.now)) }
+    ensures some { IfSome result (λ n. n ≡ sum (map words_of parts.now)) }
+    ensures none { IfNone result (2 ^ 64 ≤ sum (map words_of parts.now)) }
 {
     let mut words = 0u64;
     for part in parts {

@@ -1,6 +1,6 @@
 // The text of constants.
 
-ghost use Rattle.std.specs.Prelude.{◌≡◌, ◌++◌, [], map, flat_map, string_bytes, IfOk, OnOk};
+ghost use Rattle.std.specs.Prelude.{◌≡◌, ◌++◌, [], map, flat_map, string_bytes, IfOk, OnOk, OnErr};
 ghost use Rattle.std.specs.Fmt.{signed_decimal};
 ghost use Rattle.hipe_terms.specs.Constants.{IsConstant, AreConstants, is_nil};
 ghost use Rattle.hipe_terms.specs.Shown.{in_hex, escaped, quoted, shown, shown_all, comma_before};
@@ -18,20 +18,35 @@ pub fn show(alloc: Global, c: &Constant) -> Result<Vec<u8>, Memory>
     ensures { IfOk result (λ text. text.items ≡ shown [] (term_of c.now)) }
 {
     let mut text = String::new(alloc);
-    show_onto(alloc, c, &mut text)?;
+    show_constant(alloc, c, &mut text)?;
     Ok(text.into_bytes())
 }
 
-/// Appends the text of a constant. An error where there is no memory for it.
+/// Appends the text of a constant.
+///
+/// # Errors
+///
+/// `Memory` where there is no memory for the text. What stood there before stays as it was.
+pub fn show_onto(alloc: Global, c: &Constant, text: &mut String) -> Result<(), Memory>
+    requires { IsConstant c.now }
+    ensures ok { OnOk result (string_bytes text.new ≡ string_bytes text.old ++ shown [] (term_of c.now)) }
+    ensures err { OnErr result (string_bytes text.new ≡ string_bytes text.old) }
+{
+    let mut shown = String::new(alloc);
+    show_constant(alloc, c, &mut shown)?;
+    text.push_str(shown.as_str())
+}
+
+// Appends the text of a constant, or a part of it where there is no memory for all of it.
 #[cycle(show)]
 #[tactic(auto, using(crate::proofs::Levels::term_levels))]
-pub fn show_onto(alloc: Global, c: &Constant, text: &mut String) -> Result<(), Memory>
+fn show_constant(alloc: Global, c: &Constant, text: &mut String) -> Result<(), Memory>
     requires { IsConstant c.now }
     ensures { OnOk result (string_bytes text.new ≡ string_bytes text.old ++ shown [] (term_of c.now)) }
 {
     match c {
         Constant::Int(n) => show_integer(alloc, *n, text),
-        Constant::Atom(a) => show_atom(alloc, a, text),
+        Constant::Atom(a) => show_quoted(alloc, a, text),
         Constant::Nil => text.push_str("[]"),
         Constant::List(parts, tail) => {
             text.push_str("[")?;
@@ -41,7 +56,7 @@ pub fn show_onto(alloc: Global, c: &Constant, text: &mut String) -> Result<(), M
                 return Ok(());
             }
             text.push_str("|")?;
-            show_onto(alloc, tail.get(), text)?;
+            show_constant(alloc, tail.get(), text)?;
             text.push_str("]")?;
             Ok(())
         }
@@ -63,7 +78,7 @@ fn show_each(alloc: Global, parts: &[Constant], text: &mut String) -> Result<(),
 {
     for (i, part) in parts.iter().enumerate() {
         show_comma(i, text)?;
-        show_onto(alloc, part, text)?;
+        show_constant(alloc, part, text)?;
     }
     Ok(())
 }
@@ -91,8 +106,22 @@ fn show_integer(alloc: Global, n: i64, text: &mut String) -> Result<(), Memory>
     text.push_str(decimal.as_str())
 }
 
-/// Appends an atom in single quotes. An error where there is no memory for it.
+/// Appends an atom in single quotes.
+///
+/// # Errors
+///
+/// `Memory` where there is no memory for the text. What stood there before stays as it was.
 pub fn show_atom(alloc: Global, atom: &Atom, text: &mut String) -> Result<(), Memory>
+    ensures ok { OnOk result (string_bytes text.new ≡ string_bytes text.old ++ quoted atom.now) }
+    ensures err { OnErr result (string_bytes text.new ≡ string_bytes text.old) }
+{
+    let mut shown = String::new(alloc);
+    show_quoted(alloc, atom, &mut shown)?;
+    text.push_str(shown.as_str())
+}
+
+// Appends an atom in single quotes, or a part of it where there is no memory for all of it.
+fn show_quoted(alloc: Global, atom: &Atom, text: &mut String) -> Result<(), Memory>
     ensures { OnOk result (string_bytes text.new ≡ string_bytes text.old ++ quoted atom.now) }
 {
     let points = atom.code_points(alloc)?;

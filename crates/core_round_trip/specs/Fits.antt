@@ -1,5 +1,5 @@
--- What the grammar asks of a plain tree, where no part has a level above n: levels, names and integers that tokens have, and
--- lists as they are derived.
+-- Trees that a text can spell, where no part has a level above n: levels, names and integers that tokens have, and
+-- lists as they are derived. In each definition k is the level of the part.
 use Rattle.std.specs.Prelude.{◌≡◌, ℕ, ◌+◌, ◌≤◌, ℤ, pos, List, [], ◌∷◌, length, true, false, ◌||◌, ◌==◌, nat_le}
 use Rattle.std.specs.Str.{all_scalars}
 use Rattle.hipe_terms.specs.declared.constant.Constant as RustConstant
@@ -13,11 +13,8 @@ use Rattle.core_ast.specs.declared.pattern.Var.{Var}
 use Rattle.core_ast.specs.declared.tree.FunName.{FunName}
 use Rattle.core_ast.specs.Trees.{Pattern, Patterns, no_pattern, and_pattern, Expression, Expressions, no_expression, and_expression, Clauses, no_clause, and_clause, Definitions, no_definition, and_definition, Module}
 use Rattle.core_ast.specs.WellFormed.{is_list_pattern, is_list}
-use Rattle.core_grammar.specs.declared.terminal.Kind.{Kind}
-use Rattle.core_grammar.specs.declared.terminal.Terminal.{Terminal}
-use Rattle.core_grammar.specs.Ranges.{code_points_in_range}
 
--- ---- terminals
+-- ---- integers and names
 
 abbrev pub IsInRange : ℤ → Type 0
 IsInRange n = is_in_range n ≡ true
@@ -30,20 +27,6 @@ IsAtomName a = (length a ≤ ATOM_LIMIT) × (all_scalars a ≡ true)
 abbrev pub IsVariableName : List ℕ → Type 0
 IsVariableName [] = ⊥
 IsVariableName (c ∷ cs) = ((is_upper c || c == 95) ≡ true) × AreAll is_name_byte cs
-
--- what a token can be
-abbrev pub IsGoodKind : Kind → Type 0
-IsGoodKind (Kind.Atom a) = IsAtomName a
-IsGoodKind (Kind.Variable x) = IsVariableName x
-IsGoodKind (Kind.Natural n) = IsInRange (pos n)
-IsGoodKind (Kind.Integer n) = IsInRange n
-IsGoodKind Kind.Float = Unit {0}
-IsGoodKind (Kind.Text s) = code_points_in_range s ≡ true
-IsGoodKind (Kind.Mark m) = Unit {0}
-
-abbrev pub AreGood : List Terminal → Type 0
-AreGood [] = Unit {0}
-AreGood (t ∷ ts) = IsGoodKind t.kind × AreGood ts
 
 abbrev pub IsName : FunName → Type 0
 IsName f = IsAtomName f.name × IsInRange (pos f.arity)
