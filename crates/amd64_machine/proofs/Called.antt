@@ -152,7 +152,7 @@ not_displayed_here symbols core mid next text line before after m n e changes s 
     ap displayed_by (served_is symbols core next (Displays is.0) e is.1) in
     let shown : line ≡ lines symbols.definitions (displayed_by (machine_step symbols (state_at core []))) =
     bytes ∙ is.2 ∙ sym (append-nil (line_of symbols.definitions is.0)) ∙ ap (lines symbols.definitions) (sym displayed) in
-    Stepped.not_written (record { stopped = refl; end = refl }) refl (same_state core mid (same_core core mid changes is.3)) rises (subst (AppendsPrefix before after) shown written)
+    Stepped.not_written (record { stopped = refl; service = (next, e) }) refl (same_state core mid (same_core core mid changes is.3)) rises (subst (AppendsPrefix before after) shown written)
 
 pub builds_here : (symbols : Symbols) (core mid new : Core) (next word count : ℕ) (bytes : Option (List ℕ)) (faults : ℕ) → acted core ≡ Calls next
     → HeapChanges core mid → WasServed symbols core (done.Built word count) mid → GoesOnWith mid next (λ registers. answered word (grown count registers)) new
@@ -168,6 +168,7 @@ builds_here symbols core mid new next word count bytes faults e changes s state 
     ∙ ap (λ heap. On next (answered word (grown (length is.0) registers)) no_flags (record core.region { heap = heap }) []) is.3 in
     goes_to symbols core new [] bytes bytes faults faults (served_is symbols core next (Builds word is.0) e is.1 ∙ sym (there ∙ then)) (appends_nothing bytes)
 
-pub no_memory_here : (symbols : Symbols) (core mid : Core) (bytes : Option (List ℕ)) (faults : ℕ) → mid ≡ core
+pub no_memory_here : (symbols : Symbols) (core mid : Core) (next : ℕ) (bytes : Option (List ℕ)) (faults : ℕ) → acted core ≡ Calls next → mid ≡ core
     → Stepped (machine_seen symbols core None) (machine_seen symbols mid (Some ways.Memory)) (nothing bytes faults) (Some ends.Memory)
-no_memory_here symbols core mid bytes faults same = Stepped.no_memory (record { stopped = refl; end = refl }) refl (same_state core mid same) (keeps bytes)
+no_memory_here symbols core mid next bytes faults e same =
+    Stepped.no_memory (record { stopped = refl; service = (next, e) }) refl (same_state core mid same) (keeps bytes)

@@ -1,5 +1,5 @@
 -- A machine that is over stays so.
-use Rattle.std.proofs.Common.{◌≡◌, ℕ, List, [], ◌++◌, Option, Some, None, refl, sym, ap, subst, inl, inr}
+use Rattle.std.proofs.Common.{◌≡◌, ℕ, ◌+◌, List, [], ◌++◌, Option, Some, None, refl, sym, ap, subst, inl, inr, ◌∙◌, append-nil}
 use Rattle.std.specs.Prelude.{◌⊎◌, unwrap_or}
 use Rattle.hipe_terms.specs.Terms.{Term}
 use Rattle.heap_terms.specs.Shapes.{Symbols}
@@ -12,12 +12,14 @@ use Rattle.amd64_machine.specs.declared.machine.End.TheVariants as ends
 use Rattle.amd64_machine.specs.declared.state.Core.{Core}
 use Rattle.amd64_machine.specs.declared.state.Ended.{Ended}
 use Rattle.amd64_machine.specs.declared.state.Ended.TheVariants as ways
-use Rattle.amd64_machine.specs.Result.{end_of}
+use Rattle.amd64_machine.specs.Result.{after, end_of, displayed_by}
 use Rattle.hipe_edge.specs.Streams.{Stream, stream}
+use Rattle.amd64_machine.specs.Machine.{State, machine_run}
+use Rattle.amd64_machine.specs.Laws.{CallsGoOn}
 use Rattle.amd64_machine.specs.Outcome.{Seen, Stepped, Ran}
 use Rattle.amd64_machine.specs.Seen.{HasTerm, over, state_ended, state_seen, stopped_seen, machine_seen, end_seen, Held, machine_of}
 use Rattle.amd64_machine.proofs.Written.{keeps, appends_nothing}
-use Rattle.amd64_machine.proofs.Runs.{after, run_ended}
+use Rattle.amd64_machine.proofs.Runs.{run_ended, run_parts, run_after}
 
 over_after : (at : ℕ) (v : Effect) (ts us : List Term) → over at v (ts ++ us) ≡ after ts (over at v us)
 over_after at NoNext ts us = refl
@@ -129,3 +131,44 @@ pub held_runs : (n : ℕ) (m : Held) (new : Seen) (out : Stream) (e f : End) →
     → Ran n (machine_seen (symbols_of m.symbols) m.core None) new out e → e ≡ f → Ran n (machine_of m) new out f
 held_runs n m new out e f is s same =
     subst (λ o. Ran n (machine_seen (symbols_of m.symbols) m.core o) new out f) (sym is) (subst (Ran n (machine_seen (symbols_of m.symbols) m.core None) new out) same s)
+
+-- ---- what the next call begins with
+
+over_displayed : (at : ℕ) (v : Effect) (ts : List Term) → displayed_by (over at v ts) ≡ ts
+over_displayed at NoNext ts = refl
+over_displayed at (Ends ending) ts = refl
+over_displayed at (Answers word) ts = refl
+over_displayed at (Displays t) ts = refl
+over_displayed at (Builds word words) ts = refl
+
+ended_displayed : (symbols : Symbols) (core : Core) (ended : Ended) (ts : List Term) → displayed_by (state_ended symbols core ended ts) ≡ ts
+ended_displayed symbols core (ways.Returned word) ts = over_displayed core.at (returned (term_at symbols core.region.heap word)) ts
+ended_displayed symbols core (ways.Raised class word) ts = over_displayed core.at (raised (Some class) (term_at symbols core.region.heap word)) ts
+ended_displayed symbols core ways.Undefined ts = refl
+ended_displayed symbols core ways.HeapFull ts = refl
+ended_displayed symbols core ways.StackFull ts = refl
+ended_displayed symbols core (ways.MachineFault at) ts = refl
+ended_displayed symbols core ways.WriteFault ts = refl
+ended_displayed symbols core ways.Memory ts = refl
+
+seen_displayed : (symbols : Symbols) (core : Core) (ended : Option Ended) (ts : List Term) → displayed_by (state_seen symbols core ended ts) ≡ ts
+seen_displayed symbols core None ts = refl
+seen_displayed symbols core (Some ended) ts = ended_displayed symbols core ended ts
+
+-- the steps of the next call are those behind the steps that led to the machine
+runs_joined : (known : Symbols) (core : Core) (ended : Option Ended) (symbols : Symbols) (m n : ℕ) (s : State) (ts : List Term)
+    → machine_run symbols m s ≡ state_seen known core ended ts
+    → machine_run symbols (m + n) s ≡ after ts (machine_run symbols n (state_seen known core ended []))
+runs_joined known core ended symbols m n s ts there =
+    let state : state_seen known core ended ts ≡ after ts (state_seen known core ended []) =
+    ap (state_seen known core ended) (sym (append-nil ts)) ∙ seen_after known core ended ts [] in
+    run_parts symbols m n s ∙ ap (machine_run symbols n) (there ∙ state) ∙ run_after symbols n ts (state_seen known core ended [])
+
+pub calls_go_on : (m : Held) → CallsGoOn (machine_of m)
+calls_go_on m =
+    let symbols = symbols_of m.symbols in
+    record {
+      state = seen_after symbols m.core m.ended;
+      displayed = seen_displayed symbols m.core m.ended;
+      joined = runs_joined symbols m.core m.ended;
+    }

@@ -5,7 +5,6 @@ use Rattle.std.specs.Io.KnownBytes.{Appends}
 use Rattle.std.proofs.lemmas.Grind.{flat_map-append}
 use Rattle.hipe_terms.specs.Terms.{Term}
 use Rattle.hipe_terms.specs.Shown.{Names}
-use Rattle.hipe_edge.specs.Bytes.{AppendsPrefix}
 use Rattle.hipe_edge.specs.Counts.{Rises}
 use Rattle.heap_terms.specs.Shapes.{Symbols}
 use Rattle.machine_services.specs.Served.{line_of}
@@ -13,13 +12,13 @@ use Rattle.amd64_machine.specs.declared.machine.End.{End}
 use Rattle.amd64_machine.specs.declared.machine.End.TheVariants as ends
 use Rattle.amd64_machine.specs.declared.state.Core.{Core}
 use Rattle.amd64_machine.specs.declared.state.Ended.{Ended}
-use Rattle.amd64_machine.specs.Machine.{State, machine_step, machine_run}
-use Rattle.amd64_machine.specs.Result.{end_of, displayed_by, lines}
+use Rattle.amd64_machine.specs.Machine.{State, CallsService, machine_step, machine_run}
+use Rattle.amd64_machine.specs.Result.{after, end_of, displayed_by, lines}
 use Rattle.hipe_edge.specs.Streams.{Stream, stream}
-use Rattle.amd64_machine.specs.Outcome.{GoesOnAfter, Stepped, Ran}
+use Rattle.amd64_machine.specs.Outcome.{CallsNext, CallsAfter, GainedThenPrefix, Stepped, Ran}
 use Rattle.amd64_machine.specs.Seen.{state_at, state_seen, ends_seen, end_seen, machine_seen}
 use Rattle.amd64_machine.proofs.Written.{appends_nothing, appends_both, appends_kept, prefix_behind}
-use Rattle.amd64_machine.proofs.Runs.{after, after_end, after_displayed, step_after, run_ended, run_parts, run_last}
+use Rattle.amd64_machine.proofs.Runs.{after_end, step_after, run_ended, run_parts, run_last}
 use Rattle.amd64_machine.proofs.Ends.{seen_after}
 
 -- k steps were made from one machine to another, and the run goes on
@@ -82,6 +81,12 @@ some_is h = cc
 rises : (a b c : ℕ) → a ≤ b → Rises b c → Rises a c
 rises a b c p q = grind arith
 
+-- a service is called after k steps, where the machine that they lead to calls one
+calls_after : (n k : ℕ) (symbols : Symbols) (old cur : Core) (out : Stream) → k < n → Going k symbols old cur out
+    → CallsNext (machine_seen symbols cur None) → CallsAfter k n (machine_seen symbols old None)
+calls_after n k symbols old cur out less g calls =
+    record { fewer = less; stopped = refl; service = subst CallsService (sym g.here) calls.service }
+
 -- the step after k ends the run
 pub run_ends : (n k : ℕ) (symbols : Symbols) (old cur new : Core) (ended : Option Ended) (out : Stream) (bytes : Option (List ℕ)) (faults : ℕ) (e : Option End) (end : End)
     → k < n → Going k symbols old cur out
@@ -89,21 +94,17 @@ pub run_ends : (n k : ℕ) (symbols : Symbols) (old cur new : Core) (ended : Opt
     → Ran n (machine_seen symbols old None) (machine_seen symbols new ended) (joined out bytes faults) end
 run_ends n k symbols old cur new ended out bytes faults e end less g (Stepped.was_stopped end' p q r) h = absurd (cc)
 run_ends n k symbols old cur new ended out bytes faults e end less g (Stepped.not_written p q state r s) h =
-    let going : GoesOnAfter k n (machine_seen symbols old None) =
-    record { fewer = less; stopped = refl; end = ap end_of g.here } in
-    let shown : lines symbols.definitions (displayed_by (machine_run symbols (suc k) (state_at old [])))
-    ≡ lines symbols.definitions g.terms ++ lines symbols.definitions (displayed_by (machine_step symbols (state_at cur []))) =
-    ap (λ t. lines symbols.definitions (displayed_by t)) (step_more k symbols old cur out g)
-    ∙ ap (lines symbols.definitions) (after_displayed g.terms (machine_step symbols (state_at cur [])))
-    ∙ lines_append symbols.definitions g.terms (displayed_by (machine_step symbols (state_at cur []))) in
+    let before = lines symbols.definitions g.terms in
+    let shown : lines symbols.definitions (displayed_by (machine_step symbols (state_at cur [])))
+    ≡ lines symbols.definitions (displayed_by (machine_step symbols (state_seen symbols new ended []))) =
+    ap (λ t. lines symbols.definitions (displayed_by (machine_step symbols t))) (sym (state [])) in
     subst (Ran n (machine_seen symbols old None) (machine_seen symbols new ended) (joined out bytes faults)) (some_is h)
-    (Ran.not_written k g.terms going q (g.here ∙ sym (state g.terms)) (rises out.faults_before out.faults_after faults g.faults r)
-    (subst (AppendsPrefix out.before bytes) (sym shown) (prefix_behind out.before out.after bytes _ _ g.appended s)))
+    (Ran.not_written k g.terms (calls_after n k symbols old cur out less g p) q (g.here ∙ sym (state g.terms))
+    (rises out.faults_before out.faults_after faults g.faults r)
+    (subst (GainedThenPrefix (joined out bytes faults) before) shown (prefix_behind out.before out.after bytes before _ g.appended s)))
 run_ends n k symbols old cur new ended out bytes faults e end less g (Stepped.no_memory p q state r) h =
-    let going : GoesOnAfter k n (machine_seen symbols old None) =
-    record { fewer = less; stopped = refl; end = ap end_of g.here } in
     subst (Ran n (machine_seen symbols old None) (machine_seen symbols new ended) (joined out bytes faults)) (some_is h)
-    (Ran.no_memory k g.terms going q (g.here ∙ sym (state g.terms)) (appends_kept out.before out.after bytes _ g.appended r))
+    (Ran.no_memory k g.terms (calls_after n k symbols old cur out less g p) q (g.here ∙ sym (state g.terms)) (appends_kept out.before out.after bytes _ g.appended r))
 run_ends n k symbols old cur new ended out bytes faults e end less g (Stepped.done ts p q step written) h =
     let here : machine_run symbols (suc k) (state_at old []) ≡ state_seen symbols new ended (g.terms ++ ts) =
     step_more k symbols old cur out g ∙ ap (after g.terms) step ∙ sym (seen_after symbols new ended g.terms ts) in

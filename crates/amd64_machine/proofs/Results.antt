@@ -10,11 +10,10 @@ use Rattle.amd64_machine.specs.declared.state.Core.{Core}
 use Rattle.amd64_machine.specs.declared.state.Ended.{Ended}
 use Rattle.amd64_machine.specs.declared.state.Ended.TheVariants as ways
 use Rattle.amd64_machine.specs.Machine.{State, On, Over, ByService, MachineFault}
-use Rattle.amd64_machine.specs.Result.{HasResult, answer_of}
+use Rattle.amd64_machine.specs.Result.{after, HasResult, answer_of}
 use Rattle.hipe_edge.specs.Streams.{Stream}
 use Rattle.amd64_machine.specs.Outcome.{Seen, Ran}
 use Rattle.amd64_machine.specs.Seen.{Held, machine_of, state_seen, stopped_seen}
-use Rattle.amd64_machine.proofs.Runs.{after}
 use Rattle.amd64_machine.proofs.Ends.{seen_after}
 
 -- a machine that returned or raised

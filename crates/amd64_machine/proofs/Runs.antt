@@ -7,13 +7,8 @@ use Rattle.machine_services.specs.Services.{Effect, NoNext, Ends, Answers, Displ
 use Rattle.amd64_machine.specs.declared.machine.End.{End}
 use Rattle.amd64_machine.specs.Fetch.{fetch}
 use Rattle.amd64_machine.specs.Machine.{Registers, State, On, Over, Ending, Step, Goes, Stops, Calls, act, called, served, stepped, machine_step, machine_run}
-use Rattle.amd64_machine.specs.Result.{end_of, displayed_by}
+use Rattle.amd64_machine.specs.Result.{after, end_of, displayed_by}
 use Rattle.amd64_machine.specs.Laws.{RunsGoOn}
-
--- the state after something else was displayed before
-abbrev pub after : List Term → State → State
-after ts (On at registers flags regions displayed) = On at registers flags regions (ts ++ displayed)
-after ts (Over ending displayed) = Over ending (ts ++ displayed)
 
 pub after_end : (ts : List Term) (s : State) → end_of (after ts s) ≡ end_of s
 after_end ts (On at registers flags regions displayed) = refl
@@ -42,6 +37,11 @@ pub step_after : (symbols : Symbols) (ts : List Term) (s : State) → machine_st
 step_after symbols ts (On at registers flags regions us) =
     stepped_after symbols at registers regions ts us (act (fetch regions.code at) registers flags regions)
 step_after symbols ts (Over ending us) = refl
+
+-- and so does a run
+pub run_after : (symbols : Symbols) (n : ℕ) (ts : List Term) (s : State) → machine_run symbols n (after ts s) ≡ after ts (machine_run symbols n s)
+run_after symbols zero ts s = refl
+run_after symbols (suc n) ts s = ap (machine_run symbols n) (step_after symbols ts s) ∙ run_after symbols n ts (machine_step symbols s)
 
 pub run_over : (symbols : Symbols) (n : ℕ) (ending : Ending) (ts : List Term) → machine_run symbols n (Over ending ts) ≡ Over ending ts
 run_over symbols zero ending ts = refl
@@ -90,4 +90,4 @@ run_grows symbols (suc n) s =
     (first.0 ++ rest.0, rest.1 ∙ ap (λ ds. ds ++ rest.0) first.1 ∙ append_assoc (displayed_by s) first.0 rest.0)
 
 pub runs_go_on : (symbols : Symbols) → RunsGoOn symbols
-runs_go_on symbols = record { over = run_over symbols; parts = run_parts symbols; displayed = run_grows symbols }
+runs_go_on symbols = record { over = run_over symbols; parts = run_parts symbols; displayed = run_grows symbols; behind = run_after symbols }

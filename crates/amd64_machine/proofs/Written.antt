@@ -1,6 +1,5 @@
 -- What is written, one part after another.
-use Rattle.std.proofs.Common.{ℕ, ◌+◌, List, [], ◌++◌, Option, Some, None, length, take, refl, sym, ap, subst, ◌∙◌, append_assoc, append-nil}
-use Rattle.std.proofs.Math.Seq.{take-append-add}
+use Rattle.std.proofs.Common.{ℕ, List, [], ◌++◌, Option, Some, None, take, refl, sym, ap, ◌∙◌, append_assoc, append-nil}
 use Rattle.std.specs.Io.KnownBytes.{Appends, Keeps}
 use Rattle.hipe_edge.specs.Bytes.{AppendsPrefix}
 
@@ -24,7 +23,6 @@ appends_kept (Some x) None c bs p q = absurd p
 appends_kept (Some x) (Some y) None bs p q = absurd q
 appends_kept (Some x) (Some y) (Some z) bs p q = q ∙ p
 
--- a prefix of what comes after something is written behind it
-pub prefix_behind : (a b c : Option (List ℕ)) (bs cs : List ℕ) → Appends a b bs → AppendsPrefix b c cs → AppendsPrefix a c (bs ++ cs)
-prefix_behind a b c bs cs p q =
-    (length bs + q.0, subst (Appends a c) (sym (take-append-add bs cs q.0)) (appends_both a b c bs (take q.0 cs) p q.1))
+-- a prefix of what comes after something is written behind all of that
+pub prefix_behind : (a b c : Option (List ℕ)) (bs cs : List ℕ) → Appends a b bs → AppendsPrefix b c cs → (k : ℕ) × Appends a c (bs ++ take k cs)
+prefix_behind a b c bs cs p q = (q.0, appends_both a b c bs (take q.0 cs) p q.1)

@@ -1,5 +1,5 @@
 -- The machine, after the AMD64 Architecture Programmer's Manual, Volume 3: one instruction, and a run.
-use Rattle.std.specs.Prelude.{ℕ, zero, suc, ◌+◌, ◌*◌, ◌%◌, ℤ, List, [], ◌∷◌, ◌++◌, length, Bool, true, false, Option, Some, None, nat_eq, if◌then◌else◌}
+use Rattle.std.specs.Prelude.{◌≡◌, ℕ, zero, suc, ◌+◌, ◌*◌, ◌%◌, ℤ, List, [], ◌∷◌, ◌++◌, length, Bool, true, false, Option, Some, None, nat_eq, if◌then◌else◌}
 use Rattle.hipe_terms.specs.Terms.{Term}
 use Rattle.amd64_form.specs.declared.reg.Reg.{Reg}
 use Rattle.amd64_form.specs.declared.reg.Reg.TheVariants.{Rax, Rcx, Rdx, Rsp, Rsi, Rdi, R11, R15}
@@ -208,6 +208,11 @@ machine_run_with fetch_at symbols (suc n) state = machine_run_with fetch_at symb
 -- the instruction whose encoding stands in the code at the address
 abbrev pub fetch_code : Regions → ℕ → Fetched
 fetch_code regions at = fetch regions.code at
+
+-- the next instruction of the code calls a service
+abbrev pub CallsService : State → Type 0
+CallsService (On at registers flags regions displayed) = (next : ℕ) × (act (fetch_code regions at) registers flags regions ≡ Calls next)
+CallsService (Over ending displayed) = ⊥
 
 -- one step of the code
 abbrev pub machine_step : Symbols → State → State

@@ -30,6 +30,11 @@ abbrev pub displayed_by : State → List Term
 displayed_by (On at registers flags regions displayed) = displayed
 displayed_by (Over ending displayed) = displayed
 
+-- the state where these terms were displayed before
+abbrev pub after : List Term → State → State
+after ts (On at registers flags regions displayed) = On at registers flags regions (ts ++ displayed)
+after ts (Over ending displayed) = Over ending (ts ++ displayed)
+
 -- each term in a line of its own
 abbrev pub lines : Names → List Term → List ℕ
 lines names terms = flat_map (line_of names) terms

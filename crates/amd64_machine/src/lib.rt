@@ -31,5 +31,5 @@ pub mod state;
 
 pub use arithmetic::conditions_compare;
 pub use cache::fetches_code;
-pub use machine::{End, Machine, runs_go_on};
+pub use machine::{End, Machine, calls_go_on, runs_go_on};
 pub use result::ResultFault;

@@ -6,8 +6,9 @@ ghost use Rattle.hipe_terms.specs.Constants.{IsConstant};
 ghost use Rattle.hipe_edge.specs.Bytes.{AppendsPrefix};
 ghost use Rattle.hipe_edge.specs.Counts.{Rises};
 ghost use Rattle.heap_terms.specs.Shapes.{Symbols as SymbolsSeen};
-ghost use Rattle.amd64_machine.specs.Laws.{RunsGoOn};
+ghost use Rattle.amd64_machine.specs.Laws.{RunsGoOn, CallsGoOn};
 ghost use Rattle.amd64_machine.specs.Result.{HasResult, result_line};
+ghost use Rattle.amd64_machine.specs.Seen.{Held, machine_of};
 ghost use Rattle.amd64_machine.specs.Steps.{IsLoaded};
 
 use super::cache::{Cached, new_cache};
@@ -69,16 +70,21 @@ impl Model for Machine {
     ghost invariant = { λ m. IsCache m.core.region.code m.cache.items × HasTerm (symbols_of m.symbols) m.core.region.heap m.ended };
 }
 
-/// A run that is over stays over; the steps of a run are those of a first part and then those of the rest; and what is displayed goes
-/// behind what was displayed before.
+/// A run that is over stays over; the steps of a run are those of a first part and then those of the rest; what is displayed goes
+/// behind what was displayed before; and that changes nothing else.
 pub fn runs_go_on()
     ensures { (symbols : SymbolsSeen) → RunsGoOn symbols }
+{}
+
+/// A machine's next call begins in the state to which the last one came, with nothing displayed: its steps are those behind the steps
+/// of the last one.
+pub fn calls_go_on()
+    ensures { (m : Held) → CallsGoOn (machine_of m) }
 {}
 
 impl Machine {
     ghost use Rattle.hipe_edge.specs.Streams.{stream};
     ghost use Rattle.amd64_machine.specs.Outcome.{HasEnded, Stepped, Ran};
-    ghost use Rattle.amd64_machine.specs.Seen.{machine_of};
 
     /// Puts an image and the constants of a call into memory, before the first instruction. Where the image exports no function of the
     /// call's name and number of arguments, the run is over with the reason `'undef'` of the class `error`; where the constants don't
@@ -132,7 +138,8 @@ impl Machine {
     /// further `run` goes on. Any other end is answered again by every later call: nothing changes, and nothing is written. Each term
     /// that is displayed is written to `out` in a line of its own.
     ///
-    /// A write that fails and a lack of memory stop the machine in the state before the instruction in which they came.
+    /// A write that fails and a lack of memory come only where an instruction calls a service. They stop the machine in the state before
+    /// that instruction; the lines of the instructions before it were written.
     pub fn run<K: Sink>(&mut self, alloc: Global, n: u64, out: &mut K) -> End
         ensures run { Ran n (machine_of self.old) (machine_of self.new)
             (stream (K.written out.old) (K.written out.new) (K.faults out.old) (K.faults out.new)) result }

@@ -1,6 +1,6 @@
 // What no program of the input shows: steps one by one, runs that go on, lines that aren't written, and loading.
 use super::{PROGRAM_BEGIN, loaded};
-use amd64_machine::{End, Machine, conditions_compare, fetches_code, runs_go_on};
+use amd64_machine::{End, Machine, calls_go_on, conditions_compare, fetches_code, runs_go_on};
 use hipe_edge::{CountSink, MemSink};
 use hipe_terms::Class;
 use region_memory::layout::CODE_BEGIN;
@@ -99,4 +99,5 @@ fn laws() {
     fetches_code();
     conditions_compare();
     runs_go_on();
+    calls_go_on();
 }

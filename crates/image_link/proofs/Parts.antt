@@ -1,5 +1,5 @@
 -- Linking: where the parts stand, and what filling keeps.
-use Rattle.std.proofs.Common.{◌≡◌, ◌∙◌, add_assoc, ◌+◌, ◌<◌, ◌≤◌, ◌++◌, ℕ, suc, List, [], ◌∷◌, All, refl, sym, ap, subst, arith, add-one, append_assoc, zero-add, length, length-append, length-drop, map, get_or, take, drop}
+use Rattle.std.proofs.Common.{◌≡◌, ◌∙◌, add_assoc, ◌+◌, ◌<◌, ◌≤◌, ◌^◌, ◌++◌, ℕ, suc, List, [], ◌∷◌, All, refl, sym, ap, subst, arith, add-one, append_assoc, zero-add, length, length-append, length-drop, map, get_or, take, drop}
 use Rattle.std.specs.Prelude.{fold, sum_by}
 use Rattle.std.proofs.Math.Seq.{drop-append-add, drop-cons, get_or-append_seam, take-append-add}
 use Rattle.std.proofs.lemmas.List.{length-take-le}
@@ -206,12 +206,13 @@ entries_within parts prefix (part ∷ rest) (f ∷ fs) functions is are =
 
 -- the image keeps the rules of its fields
 pub linked_rules : (parts : List Code) (n : ProgramNames) → length parts ≡ length n.functions → All (IsPart (length n.functions)) parts
-    → code_size parts ≤ CODE_LIMIT → AreNames n → IsImage (linked parts n)
-linked_rules parts n count are fits rules =
+    → code_size parts ≤ CODE_LIMIT → AreNames n → All (λ b. b < 2 ^ 8) (linked parts n).code → IsImage (linked parts n)
+linked_rules parts n count are fits rules bytes =
     let size_is : length (exit_bytes ++ code_from parts 0 parts) ≡ code_size parts = linked_length parts (length n.functions) are in
     record {
       names = subst (λ fs. AreNames (record n { functions = fs })) (sym (entries_same parts parts 0 n.functions count)) rules;
       entries = subst (λ s. All (λ f. f.closure_entry < s) (functions_from parts 0 n.functions parts)) (sym size_is)
           (entries_within parts [] parts n.functions (length n.functions) refl are);
       size = subst (λ s. s ≤ CODE_LIMIT) (sym size_is) fits;
+      bytes = bytes;
     }

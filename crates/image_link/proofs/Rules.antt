@@ -16,7 +16,7 @@ all_one P x is = All-cons P x [] is (All-nil P)
 
 -- more atoms than before
 more_atoms : (a b : ℕ) → a ≤ b → (f : FunctionEntry) → IsEntry a f → IsEntry b f
-more_atoms a b le f = step f.name
+more_atoms a b le f entry = record { name = step f.name entry.name; arity = entry.arity; captured = entry.captured }
   where
     step : (name : Option ℕ) → MatchOption name (Unit {0}) (λ n. (n < a) × (f.captured ≡ 0)) → MatchOption name (Unit {0}) (λ n. (n < b) × (f.captured ≡ 0))
     step None is = tt

@@ -6,10 +6,12 @@ use Rattle.std.specs.Bool.{one_answer}
 use Rattle.std.specs.List.{AllByRecursion, IsDistinct, list_any, position_or_len}
 use Rattle.std.specs.declared.string.String.{String}
 use Rattle.std.proofs.lemmas.List.{length-map, map-append}
-use Rattle.std.proofs.lemmas.Bool.{leb-true}
+use Rattle.std.proofs.lemmas.Bool.{and_parts, leb-true}
 use Rattle.std.proofs.lemmas.Slice.Eq.{bytes_eq-Decides}
-use Rattle.std.proofs.lemmas.Str.{chars_from_encodes, encodes-chars, IsUtf8-string_bytes}
-use Rattle.std.proofs.lemmas.List.Elements.{All-append}
+use Rattle.std.proofs.lemmas.Str.{chars_from_encodes, encodes-chars, scalars-chars, IsUtf8-string_bytes}
+use Rattle.std.proofs.Math.Utf8.{scalar, scalars}
+use Rattle.std.specs.Char.{IsScalar}
+use Rattle.std.proofs.lemmas.List.Elements.{All-append, All-nil, All-cons}
 use Rattle.std.proofs.lemmas.List.Folds.{fold-map}
 use Rattle.std.proofs.lemmas.List.Sums.{AllPass-from_list_all}
 use Rattle.std.proofs.lemmas.Option.{slice_get-map}
@@ -114,13 +116,25 @@ interned_known atom atoms known = ap (λ b. if b then atoms else atoms ++ atom �
 pub interned_new : (atom : List ℕ) (atoms : Atoms) → list_any (bytes_eq atom) atoms ≡ false → interned atom atoms ≡ atoms ++ atom ∷ []
 interned_new atom atoms new = ap (λ b. if b then atoms else atoms ++ atom ∷ []) new
 
+-- the code points of stored texts are those of characters
+character_points : (points : List ℕ) → scalars points ≡ true → All IsScalar points
+character_points [] all = All-nil IsScalar
+character_points (p ∷ ps) all = let parts = and_parts (scalar p) (scalars ps) all in All-cons IsScalar p ps parts.0 (character_points ps parts.1)
+
+pub characters : {A : Type 0} (keys : List (String A)) → All (All IsScalar) (atoms_of keys)
+characters [] = All-nil (All IsScalar)
+characters (key ∷ keys) =
+    All-cons (All IsScalar) (points_of key) (atoms_of keys)
+    (character_points (points_of key) (scalars-chars (string_bytes key) (IsUtf8-string_bytes key))) (characters keys)
+
 -- a table with a new atom
 pub table_with : (atom : List ℕ) (atoms : Atoms) → IsAtomTable atoms → length atom ≤ ATOM_LIMIT → length atoms + 1 < 2 ^ 32
-    → IsDistinct bytes_eq (atoms ++ atom ∷ []) → IsAtomTable (atoms ++ atom ∷ [])
-table_with atom atoms table short few distinct = record {
+    → IsDistinct bytes_eq (atoms ++ atom ∷ []) → All (All IsScalar) (atoms ++ atom ∷ []) → IsAtomTable (atoms ++ atom ∷ [])
+table_with atom atoms table short few distinct texts = record {
   first = (table.first.0 ++ atom ∷ [], ap (λ a. a ++ atom ∷ []) table.first.1 ∙ append_assoc first_atoms table.first.0 (atom ∷ []));
   distinct = distinct;
   lengths = All-append (λ a. length a ≤ ATOM_LIMIT) atoms (atom ∷ []) table.lengths (one short);
+  characters = texts;
   count = rw (length-append atoms (atom ∷ [])) few;
 }
   where
@@ -168,10 +182,11 @@ first_is made list atoms none texts is =
 first_lengths : All (λ a. nat_le (length a) ATOM_LIMIT ≡ true) first_atoms
 first_lengths = AllPass-from_list_all (λ a. nat_le (length a) ATOM_LIMIT) first_atoms refl
 
-pub first_table : IsDistinct bytes_eq first_atoms → IsAtomTable first_atoms
-first_table distinct = record {
+pub first_table : IsDistinct bytes_eq first_atoms → All (All IsScalar) first_atoms → IsAtomTable first_atoms
+first_table distinct texts = record {
   first = ([], refl);
   distinct = distinct;
   lengths = λ k d below. leb-true _ _ (first_lengths k d below);
+  characters = texts;
   count = lit< tt;
 }

@@ -1,5 +1,6 @@
 -- Atoms and their numbers. An atom is the list of its code points.
 use Rattle.std.specs.Prelude.{◌≡◌, ◌<◌, ◌≤◌, ◌^◌, ◌++◌, ℕ, List, [], ◌∷◌, Option, All, bytes_eq, codes, chars, fold, length, map, position, string_bytes, if◌then◌else◌}
+use Rattle.std.specs.Char.{IsScalar}
 use Rattle.std.specs.List.{IsDistinct, list_any, position_or_len}
 use Rattle.std.proofs.Common.{Bor}
 use Rattle.std.specs.declared.string.String.{String}
@@ -33,8 +34,10 @@ pub record IsAtomTable (atoms : Atoms) : Type 0 where
   pub first : (more : Atoms) × (atoms ≡ first_atoms ++ more)
   -- no two are equal
   pub distinct : IsDistinct bytes_eq atoms
-  -- each is an atom
+  -- each is an atom: few code points
   pub lengths : All (λ a. length a ≤ ATOM_LIMIT) atoms
+  -- and each of them that of a character
+  pub characters : All (All IsScalar) atoms
   -- how many there are fits four bytes
   pub count : length atoms < 2 ^ 32
 

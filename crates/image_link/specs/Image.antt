@@ -1,5 +1,5 @@
 -- The image of a program: its names and its linked code.
-use Rattle.std.specs.Prelude.{◌<◌, ◌≤◌, ℕ, List, All, length, map}
+use Rattle.std.specs.Prelude.{◌<◌, ◌≤◌, ◌^◌, ℕ, List, All, length, map}
 use Rattle.image_link.specs.declared.names.FunctionEntry.{FunctionEntry}
 use Rattle.image_link.specs.declared.image.Function.{Function}
 use Rattle.hipe_base.specs.declared.limits.TheConstants.{CODE_LIMIT}
@@ -33,3 +33,5 @@ pub record IsImage (i : ProgramImage) : Type 0 where
   -- each function's closure entry lies in the code
   pub entries : All (λ f. f.closure_entry < length i.code) i.functions
   pub size : length i.code ≤ CODE_LIMIT
+  -- the code is made of bytes
+  pub bytes : All (λ b. b < 2 ^ 8) i.code

@@ -1,6 +1,8 @@
 -- The names of a program.
-use Rattle.std.specs.Prelude.{◌≡◌, ◌<◌, ◌^◌, ◌++◌, ℕ, List, [], ◌∷◌, None, All, MatchOption, IsSome, IsSomeAnd, length, slice_get}
+use Rattle.std.specs.Prelude.{◌≡◌, ◌<◌, ◌≤◌, ◌^◌, ◌++◌, ℕ, List, [], ◌∷◌, None, All, MatchOption, IsSome, IsSomeAnd, length, slice_get}
 use Rattle.image_link.specs.declared.names.FunctionEntry.{FunctionEntry}
+use Rattle.hipe_base.specs.declared.limits.TheConstants.{ARITY_LIMIT}
+use Rattle.image_link.specs.declared.numbers.TheConstants.{CAPTURED_LIMIT}
 use Rattle.image_link.specs.Atoms.{Atoms, IsAtomTable, first_atoms, interned, number_in}
 
 -- what a program has names for: atoms and functions by their numbers, and the exported functions
@@ -18,9 +20,12 @@ IsDefinition f = IsSome f.name
 abbrev pub IsFun : FunctionEntry → Type 0
 IsFun f = f.name ≡ None
 
--- the name of a definition is among so many atoms, and it captures no values
-abbrev pub IsEntry : ℕ → FunctionEntry → Type 0
-IsEntry atoms f = MatchOption f.name (Unit {0}) (λ name. (name < atoms) × (f.captured ≡ 0))
+-- the rules of a function in a program of so many atoms
+pub record IsEntry (atoms : ℕ) (f : FunctionEntry) : Type 0 where
+  -- the name of a definition is among the atoms, and it captures no values
+  pub name : MatchOption f.name (Unit {0}) (λ name. (name < atoms) × (f.captured ≡ 0))
+  pub arity : f.arity ≤ ARITY_LIMIT
+  pub captured : f.captured ≤ CAPTURED_LIMIT
 
 -- only funs follow a fun
 abbrev pub DefinitionsFirst : List FunctionEntry → Type 0

@@ -103,14 +103,23 @@ fn join(alloc: Global, parts: &[Code], starts: &[u32]) -> Result<Vec<u8>, Memory
     requires starts { starts.now ≡ starts_of parts.now }
     requires parts { All (IsPart (length parts.now)) parts.now }
     requires size { code_size parts.now ≤ CODE_LIMIT }
-    ensures { IfOk result (λ code. code.items ≡ exit_bytes ++ code_from parts.now 0 parts.now) }
+    ensures code { IfOk result (λ code. code.items ≡ exit_bytes ++ code_from parts.now 0 parts.now) }
+    ensures bytes { IfOk result (λ code. All (λ b. b < 2 ^ 8) code.items) }
 {
     let mut code = Vec::with_capacity(alloc, code_size(parts) as usize)?;
     put_exit(&mut code)?;
     for part in parts {
         put_part(part, starts, &mut code)?;
     }
+    are_bytes(code.as_slice());
     Ok(code)
+}
+
+// Each byte is one of eight bits.
+fn are_bytes(code: &[u8])
+    ensures { All (λ b. b < 2 ^ 8) code.now }
+{
+    let _ = code.len();
 }
 
 // Appends a part with its calls filled.

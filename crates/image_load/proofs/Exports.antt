@@ -31,7 +31,7 @@ name_within n (Some j) k c e m =
 
 -- the name of a definition is among the atoms
 pub named : (n : ℕ) (f : Function) (k : ℕ) → f.name ≡ Some k → IsEntry n (entry_of f) → k < n
-named n f k e entry = name_within n f.name k f.captured e entry
+named n f k e entry = name_within n f.name k f.captured e entry.name
 
 -- ---- the number of a name
 
@@ -83,12 +83,12 @@ same_call : (image : ProgramImage) (name : List ℕ) (number arity i : ℕ) (o :
     → is_called image.atoms name arity o ≡ is_numbered number arity o
 same_call image name number arity i None rules e s = refl
 same_call image name number arity i (Some f) rules e s =
-    ap (λ b. b && nat_eq f.arity arity) (same_name image.atoms name number f.captured f.name rules.names.atoms.distinct e (entry_at (length image.atoms) image.functions i f rules.names.entries s))
+    ap (λ b. b && nat_eq f.arity arity) (same_name image.atoms name number f.captured f.name rules.names.atoms.distinct e (entry_at (length image.atoms) image.functions i f rules.names.entries s).name)
 
 no_call : (image : ProgramImage) (name : List ℕ) (arity i : ℕ) (o : Option Function) → IsImage image → number_of name image.atoms ≡ None → slice_get image.functions i ≡ o → is_called image.atoms name arity o ≡ false
 no_call image name arity i None rules e s = refl
 no_call image name arity i (Some f) rules e s =
-    ap (λ b. b && nat_eq f.arity arity) (no_name image.atoms name f.captured f.name e (entry_at (length image.atoms) image.functions i f rules.names.entries s))
+    ap (λ b. b && nat_eq f.arity arity) (no_name image.atoms name f.captured f.name e (entry_at (length image.atoms) image.functions i f rules.names.entries s).name)
 
 -- where the name has a number, the function is found by it
 pub found_by_number : (image : ProgramImage) (name : List ℕ) (number arity : ℕ) (exports : List ℕ) → IsImage image → number_of name image.atoms ≡ Some number

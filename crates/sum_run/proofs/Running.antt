@@ -1,5 +1,5 @@
 -- The run of a machine that is loaded with the image of a sum.
-use Rattle.std.proofs.Common.{◌≡◌, ℕ, zero, suc, ◌+◌, ◌-◌, ◌≤◌, ℤ, List, [], ◌∷◌, ◌++◌, length, map, take, Bool, true, false, nat_le, if◌then◌else◌, Option, Some, None, Result, Ok, Err, refl, sym, ap, ◌∙◌, subst, arith, append-nil}
+use Rattle.std.proofs.Common.{◌≡◌, ℕ, zero, suc, ◌+◌, ◌-◌, ◌<◌, ◌≤◌, ℤ, List, [], ◌∷◌, ◌++◌, length, map, take, Bool, true, false, nat_le, if◌then◌else◌, Option, Some, None, Result, Ok, Err, refl, sym, ap, ◌∙◌, subst, subst₂, arith, append-nil}
 use Rattle.std.specs.Prelude.{IfOk, sum}
 use Rattle.std.specs.Io.KnownBytes.{Appends, Keeps}
 use Rattle.hipe_terms.specs.declared.constant.Constant.{Constant}
@@ -10,54 +10,24 @@ use Rattle.hipe_edge.specs.Bytes.{AppendsPrefix}
 use Rattle.hipe_edge.specs.Counts.{Rises}
 use Rattle.region_memory.specs.Regions.{Regions, opened, heap_begin}
 use Rattle.heap_terms.specs.Shapes.{Symbols}
-use Rattle.heap_terms.specs.Seen.{symbols_of}
-use Rattle.heap_terms.specs.Terms.{term_at}
 use Rattle.heap_terms.specs.Building.{all_built, built}
-use Rattle.machine_services.specs.Services.{Effect, NoNext, Ends, Answers, Displays, Builds, Returned, returned, raised}
+use Rattle.machine_services.specs.Services.{Returned}
 use Rattle.image_link.specs.Image.{ProgramImage}
 use Rattle.image_link.specs.declared.image.Function.{Function}
 use Rattle.image_load.specs.Loading.{HeapFull, symbols_for, loaded, begun, ready, not_ready, with_code, exported}
 use Rattle.amd64_machine.specs.declared.machine.End.{End}
 use Rattle.amd64_machine.specs.declared.machine.End.TheVariants as ends
-use Rattle.amd64_machine.specs.declared.state.Core.{Core}
-use Rattle.amd64_machine.specs.declared.state.Ended.{Ended}
-use Rattle.amd64_machine.specs.declared.state.Ended.TheVariants as ways
-use Rattle.amd64_machine.specs.Machine.{State, Over, ByService, machine_run}
+use Rattle.amd64_machine.specs.Machine.{State, Over, ByService, machine_step, machine_run}
 use Rattle.amd64_machine.specs.Loading.{start}
 use Rattle.amd64_machine.specs.Result.{answer_of, displayed_by, lines}
 use Rattle.hipe_edge.specs.Streams.{Stream}
 use Rattle.amd64_machine.specs.Outcome.{Seen, Ran, was_stopped, done, not_written, no_memory}
-use Rattle.amd64_machine.specs.Seen.{Held, machine_of, over, state_ended, state_seen}
+use Rattle.amd64_machine.specs.Seen.{Held, machine_of}
 use Rattle.amd64_machine.proofs.Runs.{runs_go_on}
+use Rattle.amd64_machine.proofs.Ends.{calls_go_on}
 use Rattle.sum_code.specs.declared.limits.TheConstants.{HEAP_WORDS, STACK_WORDS, STEPS}
 use Rattle.sum_code.specs.Code.{main_call, EndsWith}
 use Rattle.sum_run.specs.Run.{IsReady}
-
--- ---- what a machine has displayed
-
-over_displayed : (at : ℕ) (v : Effect) (ts : List Term) → displayed_by (over at v ts) ≡ ts
-over_displayed at NoNext ts = refl
-over_displayed at (Ends ending) ts = refl
-over_displayed at (Answers word) ts = refl
-over_displayed at (Displays t) ts = refl
-over_displayed at (Builds word words) ts = refl
-
-ended_displayed : (symbols : Symbols) (core : Core) (ended : Ended) (ts : List Term) → displayed_by (state_ended symbols core ended ts) ≡ ts
-ended_displayed symbols core (ways.Returned word) ts = over_displayed core.at (returned (term_at symbols core.region.heap word)) ts
-ended_displayed symbols core (ways.Raised class word) ts = over_displayed core.at (raised (Some class) (term_at symbols core.region.heap word)) ts
-ended_displayed symbols core ways.Undefined ts = refl
-ended_displayed symbols core ways.HeapFull ts = refl
-ended_displayed symbols core ways.StackFull ts = refl
-ended_displayed symbols core (ways.MachineFault at) ts = refl
-ended_displayed symbols core ways.WriteFault ts = refl
-ended_displayed symbols core ways.Memory ts = refl
-
-seen_displayed : (symbols : Symbols) (core : Core) (ended : Option Ended) (ts : List Term) → displayed_by (state_seen symbols core ended ts) ≡ ts
-seen_displayed symbols core None ts = refl
-seen_displayed symbols core (Some ended) ts = ended_displayed symbols core ended ts
-
-machine_displayed : (m : Held) (ts : List Term) → displayed_by ((machine_of m).state ts) ≡ ts
-machine_displayed m ts = seen_displayed (symbols_of m.symbols) m.core m.ended ts
 
 -- ---- the run
 
@@ -95,6 +65,21 @@ shows_nothing image v n m ends enough le =
     ap displayed_by (sym ((runs_go_on symbols).parts m rest (first image)) ∙ ap (λ k. machine_run symbols k (first image)) parts ∙ run_gives image v n ends enough) in
     none_before (displayed_by way) grown.0 (sym grown.1 ∙ whole)
 
+-- nothing was displayed before a machine in which a service failed, and the failed step displays nothing
+shown_before : (image : ProgramImage) (v : ℤ) (n k : ℕ) (old : Seen) (m : Held) (ts : List Term) → EndsWith image v → STEPS ≤ n → IsReady image old → k < n
+    → machine_run old.symbols k (old.state []) ≡ (machine_of m).state ts
+    → (ts ≡ []) × (displayed_by (machine_step old.symbols ((machine_of m).state [])) ≡ [])
+shown_before image v n k old m ts ends enough ready less state =
+    let new = machine_of m in
+    let way : (j : ℕ) → j ≤ n → displayed_by (machine_run old.symbols j (old.state [])) ≡ [] =
+    λ j le. ap (λ s. displayed_by (machine_run s j (old.state []))) ready.symbols
+    ∙ ap (λ s. displayed_by (machine_run (symbols_for image []) j s)) ready.state ∙ shows_nothing image v n j ends enough le in
+    let same : ts ≡ [] = sym ((calls_go_on m).displayed ts) ∙ ap displayed_by (sym state) ∙ way k (omega (arith, less)) in
+    let there : new.state [] ≡ machine_run old.symbols k (old.state []) = ap new.state (sym same) ∙ sym state in
+    let step : machine_step old.symbols (new.state []) ≡ machine_run old.symbols (k + 1) (old.state []) =
+    ap (machine_step old.symbols) there ∙ sym ((runs_go_on old.symbols).parts k 1 (old.state [])) in
+    (same, ap displayed_by step ∙ way (k + 1) (omega (arith, less)))
+
 -- what the run came to
 pub data Came (v : ℤ) (new : Seen) (out : Stream) : End → Type 0 where
   gave : new.state [] ≡ Gave v → Appends out.before out.after [] → Came v new out ends.Returned
@@ -109,23 +94,16 @@ came image v n old m out ends enough ready (done ts going stays run gained) =
     let same : machine_run old.symbols n (old.state []) ≡ machine_run (symbols_for image []) n (first image) =
     ap (λ s. machine_run s n (old.state [])) ready.symbols ∙ ap (machine_run (symbols_for image []) n) ready.state in
     let over : new.state ts ≡ Gave v = sym run ∙ same ∙ run_gives image v n ends enough in
-    let nothing : ts ≡ [] = sym (machine_displayed m ts) ∙ ap displayed_by over in
+    let nothing : ts ≡ [] = sym ((calls_go_on m).displayed ts) ∙ ap displayed_by over in
     let there : new.state [] ≡ Gave v = ap new.state (sym nothing) ∙ over in
     let written : Appends out.before out.after [] = subst (λ us. Appends out.before out.after (lines old.symbols.definitions us)) nothing gained in
     subst (λ s. Came v new out (answer_of s)) (sym over) (gave there written)
 came image v n old m out ends enough ready (not_written k ts going stopped state rises prefix) =
-    let same : displayed_by (machine_run old.symbols (suc k) (old.state [])) ≡ [] =
-    ap (λ s. displayed_by (machine_run s (suc k) (old.state []))) ready.symbols
-    ∙ ap (λ s. displayed_by (machine_run (symbols_for image []) (suc k) s)) ready.state
-    ∙ shows_nothing image v n (suc k) ends enough (omega (arith, going.fewer)) in
-    faulted rises (subst (λ us. AppendsPrefix out.before out.after (lines old.symbols.definitions us)) same prefix)
+    let shown = shown_before image v n k old m ts ends enough ready going.fewer state in
+    faulted rises (prefix.0, subst₂ (λ us ws. Appends out.before out.after (lines old.symbols.definitions us ++ take prefix.0 (lines old.symbols.definitions ws))) shown.0 shown.1 prefix.1)
 came image v n old m out ends enough ready (no_memory k ts going stopped state gained) =
-    let same : ts ≡ [] =
-    sym (machine_displayed m ts) ∙ ap displayed_by (sym state)
-    ∙ ap (λ s. displayed_by (machine_run s k (old.state []))) ready.symbols
-    ∙ ap (λ s. displayed_by (machine_run (symbols_for image []) k s)) ready.state
-    ∙ shows_nothing image v n k ends enough (omega (arith, going.fewer)) in
-    wanted (subst (λ us. Appends out.before out.after (lines old.symbols.definitions us)) same gained)
+    let shown = shown_before image v n k old m ts ends enough ready going.fewer state in
+    wanted (subst (λ us. Appends out.before out.after (lines old.symbols.definitions us)) shown.0 gained)
 
 -- ---- what the calls below promise
 

@@ -6,7 +6,7 @@ use Rattle.amd64_machine.proofs.serving.serve_call.Goals as goal
 
 pub returns-in-Err-clause-step : goal.returns-in-Err-clause-step
 returns-in-Err-clause-step g c =
-    no_memory_here (symbols_of c.args.symbols.now) c.args.core.now c.call_service.new.core (g.K.Sink.written c.args.out.now) (g.K.Sink.faults c.args.out.now) c.in-Err.ensures.memory
+    no_memory_here (symbols_of c.args.symbols.now) c.args.core.now c.call_service.new.core c.args.next (g.K.Sink.written c.args.out.now) (g.K.Sink.faults c.args.out.now) c.requires c.in-Err.ensures.memory
 
 pub returns-in-Ok-NoNext-clause-step : goal.returns-in-Ok-NoNext-clause-step
 returns-in-Ok-NoNext-clause-step g c =

@@ -1,8 +1,9 @@
-use Rattle.std.proofs.Common.{◌≡◌, ◌∙◌, ◌<◌, ◌+◌, ◌^◌, ◌++◌, ◌∷◌, [], ap, sym, subst, bytes_eq, length, length-append, append-nil, arith}
+use Rattle.std.proofs.Common.{◌≡◌, ◌∙◌, ◌<◌, ◌+◌, ◌^◌, ◌++◌, ◌∷◌, [], All, ap, sym, subst, bytes_eq, length, length-append, append-nil, arith}
 use Rattle.std.proofs.lemmas.Str.{chars_from_encodes}
+use Rattle.std.specs.Char.{IsScalar}
 use Rattle.std.specs.List.{IsDistinct, list_any}
 use Rattle.image_link.specs.Atoms.{IsAtomTable, atoms_of, interned, number_in}
-use Rattle.image_link.proofs.Texts.{number_from, new_last, new_number, stands_in, interned_known, table_with}
+use Rattle.image_link.proofs.Texts.{characters, number_from, new_last, new_number, stands_in, interned_known, table_with}
 use Rattle.image_link.proofs.atoms.AtomTable.intern.Goals as goal
 
 pub returns-in-Some-clause-number : goal.returns-in-Some-clause-number
@@ -31,7 +32,8 @@ invariant_of-self-2 c =
     let few : length (atoms_of c.self.inside.texts.keys) + 1 < 2 ^ 32 =
     omega (arith, c.len-at.ensures.len, ap length c.self.view_is, c.if-at.false, c.self.invariant.count) in
     subst IsAtomTable (sym (last c)) (table_with c.args.atom.now (atoms_of c.self.inside.texts.keys) c.self.invariant c.keeps_limit.ensures few
-    (subst (IsDistinct bytes_eq) (last c) c.in_ok-insert.ensures.distinct))
+    (subst (IsDistinct bytes_eq) (last c) c.in_ok-insert.ensures.distinct)
+    (subst (All (All IsScalar)) (last c) (characters c.insert.new.texts.keys)))
 
 pub returns-clause-number : goal.returns-clause-number
 returns-clause-number c =
