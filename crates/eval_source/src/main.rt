@@ -32,7 +32,8 @@ mod run;
 mod top;
 
 use hipe_edge::{StdSink, StdSource};
-use hipe_stop::{program_arguments, report};
+use hipe_stop::{Stop, program_arguments, report, stack_is_there};
+use limits::STACK_PAGES;
 use std::process::ExitCode;
 use top::eval_source;
 
@@ -40,7 +41,12 @@ fn main(rt: HostRuntime) -> ExitCode {
     let mut source = StdSource::new(rt.stdin());
     let mut out = StdSink::new(rt.stdout());
     let mut err = StdSink::new(rt.stderr());
-    let status = match program_arguments(&rt) {
+    let arguments = if stack_is_there(&rt, STACK_PAGES) {
+        program_arguments(&rt)
+    } else {
+        Err(Stop::Memory)
+    };
+    let status = match arguments {
         Ok(arguments) => eval_source(rt.alloc(), &arguments, &mut source, &mut out, &mut err),
         Err(stop) => report(rt.alloc(), stop, &mut err),
     };

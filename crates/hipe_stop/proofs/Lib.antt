@@ -2,3 +2,4 @@
 pub mod Inputs
 pub mod Reading
 pub mod Lines
+pub mod Pages

@@ -12,15 +12,18 @@
 //   good.rt          the good module of a text
 //   arguments.rt     the arguments of a program
 //   reporting.rt     the line of a stop, and the exit status
+//   stack.rt         the stack's pages, written before anything else
 #![tactic(auto)]
 
 mod arguments;
 mod conversions;
 mod good;
 mod reporting;
+mod stack;
 mod stop;
 
 pub use arguments::program_arguments;
 pub use good::good_module;
 pub use reporting::report;
+pub use stack::stack_is_there;
 pub use stop::{Reason, Stop};

@@ -14,6 +14,7 @@
 //
 // Files:
 //   arguments.rt   the arguments and the modes that they name
+//   limits.rt      the limits, with their reasons
 //   place.rt       the place of a module in its text
 //   run.rt         from the source to the line on out
 //   top.rt         `hipe_alone`
@@ -21,6 +22,7 @@
 #![tactic(auto)]
 
 mod arguments;
+mod limits;
 mod place;
 mod run;
 #[cfg(test)]
@@ -28,7 +30,8 @@ mod tests;
 mod top;
 
 use hipe_edge::{StdSink, StdSource};
-use hipe_stop::{program_arguments, report};
+use hipe_stop::{Stop, program_arguments, report, stack_is_there};
+use limits::STACK_PAGES;
 use std::process::ExitCode;
 use top::hipe_alone;
 
@@ -36,7 +39,12 @@ fn main(rt: HostRuntime) -> ExitCode {
     let mut source = StdSource::new(rt.stdin());
     let mut out = StdSink::new(rt.stdout());
     let mut err = StdSink::new(rt.stderr());
-    let status = match program_arguments(&rt) {
+    let arguments = if stack_is_there(&rt, STACK_PAGES) {
+        program_arguments(&rt)
+    } else {
+        Err(Stop::Memory)
+    };
+    let status = match arguments {
         Ok(arguments) => hipe_alone(rt.alloc(), &arguments, &mut source, &mut out, &mut err),
         Err(stop) => report(rt.alloc(), stop, &mut err),
     };
