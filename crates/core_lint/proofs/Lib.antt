@@ -1,9 +1,10 @@
 pub mod Bound
-pub mod Counted
 pub mod Counts
 pub mod Entered
 pub mod Finding
+pub mod Known
 pub mod Linted
 pub mod Room
 pub mod Tallying
 pub mod Totals
+pub mod Wanted

@@ -13,12 +13,11 @@ use Rattle.core_lint.proofs.Totals.{totals_are}
 use Rattle.core_lint.proofs.Finding.{finds_module}
 use Rattle.core_lint.proofs.Tallying.{tells_module}
 
-pub linted : (m : Module) (first answer : Option Broken) → first ≡ (visited_module m (record { variables = []; functions = []; first = None })).first →
-    answer ≡ (tallied_module m (record { first = first; left = FUNCTION_LIMIT + 1 })).first → MatchOption answer (IsGood m) (λ b. IsFirstBroken m b.rule b.at)
-linted m first answer e f =
+pub linted : (m : Module) (known answer : Option Broken) → known ≡ (tallied_module m (record { first = None; left = FUNCTION_LIMIT + 1 })).first →
+    answer ≡ (visited_module m (record { variables = []; functions = []; first = known })).first → MatchOption answer (IsGood m) (λ b. IsFirstBroken m b.rule b.at)
+linted m known answer e f =
+    let counts = tells_module m None in
     let names = finds_module m in
-    let counts = tells_module m first in
-    let known : first ≡ noted_all names.spots None = e ∙ ap (λ w. w.first) (names.is None) in
-    let found : answer ≡ noted_all (names.spots ++ counts.spots) None =
-    f ∙ counts.is ∙ ap (λ g. noted_all counts.spots g) known ∙ sym (noted_all-append names.spots counts.spots None) in
-    first_is m (names.spots ++ counts.spots) (λ b. let t = totals_are b m in omega (arith, occurs-append b names.spots counts.spots, names.counted b, counts.counted b, t)) answer (sym found)
+    let found : answer ≡ noted_all (counts.spots ++ names.spots) None =
+    f ∙ ap (λ w. w.first) (names.is known) ∙ ap (λ g. noted_all names.spots g) (e ∙ counts.is) ∙ sym (noted_all-append counts.spots names.spots None) in
+    first_is m (counts.spots ++ names.spots) (λ b. let t = totals_are b m in omega (arith, occurs-append b counts.spots names.spots, names.counted b, counts.counted b, t)) answer (sym found)

@@ -1,5 +1,5 @@
 -- Names that are bound together, each with its place.
-use Rattle.std.specs.Prelude.{ℕ, not, List, [], ◌∷◌, ◌++◌, map, Option, encode_utf8_all}
+use Rattle.std.specs.Prelude.{ℕ, not, Bool, ◌||◌, List, [], ◌∷◌, ◌++◌, map, Option, encode_utf8_all}
 use Rattle.std.specs.List.{list_any}
 use Rattle.hipe_terms.specs.declared.place.Place.{Place}
 use Rattle.core_ast.specs.declared.pattern.Var.{Var}
@@ -10,7 +10,7 @@ use Rattle.core_ast.specs.Names.{defined}
 use Rattle.core_ast.specs.declared.rule.Broken.{Broken}
 use Rattle.core_lint.specs.declared.name.Bound.{Bound}
 use Rattle.core_lint.specs.Keys.{Key, key_of, same_key}
-use Rattle.core_lint.specs.Noted.{noted_unless}
+use Rattle.core_lint.specs.Noted.{is_wanted, noted_unless}
 
 abbrev pub Entry : Type 0
 Entry = Key × Place
@@ -38,3 +38,8 @@ entered es ks = map (λ e. e.0) es ++ ks
 abbrev pub repeats : Rule → List Key → List Entry → Option Broken → Option Broken
 repeats r seen [] first = first
 repeats r seen (e ∷ es) first = repeats r (e.0 ∷ seen) es (noted_unless (not (list_any (λ k. same_key e.0 k) seen)) r e.1 first)
+
+-- whether the rule could be the first broken one where some of these are bound
+abbrev pub is_some_wanted : Rule → List Bound → Option Broken → Bool
+is_some_wanted r [] first = Bool.false
+is_some_wanted r (b ∷ bs) first = is_wanted r b.at first || is_some_wanted r bs first

@@ -1,10 +1,12 @@
 -- The names in scope as the walk keeps them: a text and a number each. A variable has the number 0, a function its arity.
-use Rattle.std.specs.Prelude.{◌≡◌, ℕ, ◌==◌, Bool, ◌&&◌, List, [], ◌∷◌, ◌++◌, bytes_eq, unwrap_or, if◌then◌else◌, ◌+◌}
-use Rattle.std.specs.BTreeMap.{BTreeMap, get}
+use Rattle.std.specs.Prelude.{◌≡◌, ℕ, ◌==◌, Bool, ◌&&◌, List, [], ◌∷◌, bytes_eq}
+use Rattle.std.specs.BTreeSet.{BTreeSet, contains}
+use Rattle.std.specs.List.{list_any}
 use Rattle.std.specs.Cmp.Lexicographic.{slice_cmp}
 use Rattle.std.specs.declared.cmp.Ordering.{Ordering}
 use Rattle.std.specs.Ordering.{ordering_then, nat_cmp}
 use Rattle.core_lint.specs.declared.name.Name.{Name}
+use Rattle.core_lint.specs.declared.scope.Entered.{Entered}
 
 abbrev pub Key : Type 0
 Key = List ℕ × ℕ
@@ -19,19 +21,16 @@ same_key a b = bytes_eq a.0 b.0 && a.1 == b.1
 abbrev pub name_order : Name → Name → Ordering
 name_order a b = ordering_then (slice_cmp nat_cmp a.text.now b.text.now) (nat_cmp a.arity b.arity)
 
--- the keys of names, the last name first
-abbrev pub keys : List Name → List Key
-keys [] = []
-keys (n ∷ ns) = keys ns ++ key_of n ∷ []
+-- the keys of names that were entered over these, the last name first
+abbrev pub keys : List Key → List Entered → List Key
+keys ks [] = ks
+keys ks (e ∷ es) = keys (key_of e.name ∷ ks) es
 
-abbrev pub Counts : Type 0
-Counts = BTreeMap Name ℕ
+-- each name that was entered over these says whether it hides one
+abbrev pub IsMarked : List Key → List Entered → Type 0
+IsMarked ks [] = Unit {0}
+IsMarked ks (e ∷ es) = (e.hides ≡ list_any (λ k. same_key (key_of e.name) k) ks) × IsMarked (key_of e.name ∷ ks) es
 
--- how often a key stands in a list of names
-abbrev pub occurrences : Key → List Name → ℕ
-occurrences k [] = 0
-occurrences k (n ∷ ns) = (if same_key k (key_of n) then 1 else 0) + occurrences k ns
-
--- how often each name is counted is how often it stands in the list
-abbrev pub IsCounted : List Name → Counts → Type 0
-IsCounted names counts = (q : Name) → unwrap_or (get name_order counts q) 0 ≡ occurrences (key_of q) names
+-- the set has the names that were entered, and each says whether it hides one
+abbrev pub IsKnown : List Entered → BTreeSet Name → Type 0
+IsKnown es known = ((q : Name) → contains name_order known q ≡ list_any (λ k. same_key (key_of q) k) (keys [] es)) × IsMarked [] es

@@ -2,7 +2,7 @@
 
 ghost use Rattle.std.specs.Prelude.{◌≡◌};
 ghost use Rattle.core_ast.specs.First.{is_sooner};
-ghost use Rattle.core_lint.specs.Noted.{noted_unless};
+ghost use Rattle.core_lint.specs.Noted.{is_wanted, noted_unless};
 
 use core_ast::{Broken, Place, Rule};
 
@@ -17,6 +17,16 @@ fn is_sooner(a: Broken, b: Broken) -> bool
         return a.at.col < b.at.col;
     }
     a.rule < b.rule
+}
+
+/// Whether a rule that is broken at this place would be answered before the first that is known.
+pub fn is_wanted(rule: Rule, at: Place, first: Option<Broken>) -> bool
+    ensures { result ≡ is_wanted rule at first }
+{
+    match first {
+        Some(known) => is_sooner(Broken { rule, at }, known),
+        None => true,
+    }
 }
 
 /// Notes a rule that is broken unless the test holds, where it is answered before the first that is known.

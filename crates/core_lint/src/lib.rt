@@ -4,9 +4,9 @@
 // place, or that memory ran out. Rules are broken at places; the first place in the text is answered, and at one place the first rule.
 // The rules and what is broken where are definitions of `core_ast`.
 //
-// Three walks go through a module. One keeps the names in scope, in ordered maps; one counts values, parameters and
-// functions; one counts nodes. That each visits every part once, and goes down no deeper than the levels of the module, is
-// how the code is written, and no contract says it.
+// Three walks go through a module. One counts values, parameters and functions; one counts nodes; and the last keeps the names in
+// scope, in ordered sets, and looks for none where a rule that is broken behind the first known one wouldn't be answered. That each
+// visits every part once, and goes down no deeper than the levels of the module, is how the code is written, and no contract says it.
 //
 // May touch: memory alone, for the names in scope.
 //

@@ -20,25 +20,12 @@ use hipe_base::Memory;
 use hipe_base::limits::FUNCTION_LIMIT;
 use std::alloc::Global;
 
-// The first broken rule that speaks of names.
-fn names(alloc: Global, m: &Module) -> Result<Option<Broken>, Memory>
-    ensures { IfOk result (λ first. first ≡ (visited_module (module_of m.now) (record { variables = []; functions = []; first = None })).first) }
-{
-    let mut walk = Walk {
-        variables: Scope::new(alloc),
-        functions: Scope::new(alloc),
-        first: None,
-    };
-    scoping::module(alloc, m, &mut walk)?;
-    Ok(walk.first)
-}
-
-// The first broken rule, where the first that speaks of names is known.
-fn counts(m: &Module, first: Option<Broken>) -> Option<Broken>
-    ensures { result ≡ (tallied_module (module_of m.now) (record { first = first; left = FUNCTION_LIMIT + 1 })).first }
+// The first broken rule that counts.
+fn counts(m: &Module) -> Option<Broken>
+    ensures { result ≡ (tallied_module (module_of m.now) (record { first = None; left = FUNCTION_LIMIT + 1 })).first }
 {
     let mut tally = Tally {
-        first,
+        first: None,
         left: FUNCTION_LIMIT + 1,
     };
     exports(m.exports.as_slice(), &mut tally);
@@ -47,12 +34,24 @@ fn counts(m: &Module, first: Option<Broken>) -> Option<Broken>
     tally.first
 }
 
-// The first broken rule.
+// The first broken rule, where the first that counts is known.
+fn names(alloc: Global, m: &Module, first: Option<Broken>) -> Result<Option<Broken>, Memory>
+    ensures { IfOk result (λ answer. answer ≡ (visited_module (module_of m.now) (record { variables = []; functions = []; first = first })).first) }
+{
+    let mut walk = Walk {
+        variables: Scope::new(alloc),
+        functions: Scope::new(alloc),
+        first,
+    };
+    scoping::module(alloc, m, &mut walk)?;
+    Ok(walk.first)
+}
+
+// The first broken rule. Names are walked last, so that none is looked for behind a rule that counts.
 fn first_broken(alloc: Global, m: &Module) -> Result<Option<Broken>, Memory>
     ensures { IfOk result (λ first. MatchOption first (IsGood (module_of m.now)) (λ b. IsFirstBroken (module_of m.now) b.rule b.at)) }
 {
-    let first = names(alloc, m)?;
-    Ok(counts(m, first))
+    names(alloc, m, counts(m))
 }
 
 /// The module as a good one, or why it isn't: the first rule that it breaks, by the place and at one place by the order of

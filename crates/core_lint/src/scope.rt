@@ -1,6 +1,6 @@
 // The names in scope.
 
-ghost use Rattle.std.specs.Prelude.{◌≡◌, ◌≤◌, ◌∷◌, [], OnOk, OnErr, drop, length, map};
+ghost use Rattle.std.specs.Prelude.{◌≡◌, ◌≤◌, ◌∷◌, [], IfOk, OnOk, OnErr, drop, length, map};
 ghost use Rattle.std.specs.List.{list_any};
 ghost use Rattle.core_lint.specs.Keys.{same_key, key_of};
 ghost use Rattle.core_lint.specs.Entries.{entry_of, entered};
@@ -8,26 +8,33 @@ ghost use Rattle.core_lint.specs.Entries.{entry_of, entered};
 use crate::name::{Bound, Name};
 use hipe_base::Memory;
 use std::alloc::Global;
-use std::collections::BTreeMap;
+use std::collections::BTreeSet;
 use std::marker::Model;
+
+// A name in scope, and whether it hides an equal one that was in scope before.
+#[derive(Clone, Copy, Debug)]
+pub struct Entered<'a> {
+    pub name: Name<'a>,
+    pub hides: bool,
+}
 
 /// The names in scope. Contracts see them as a list, the innermost first.
 #[derive(Drop)]
 pub struct Scope<'a> {
-    names: Vec<Name<'a>>,
-    counts: BTreeMap<Name<'a>, u64>,
+    names: Vec<Entered<'a>>,
+    known: BTreeSet<Name<'a>>,
 }
 
 impl<'a> Model for Scope<'a> {
-    ghost use Rattle.std.specs.Prelude.{ℕ, List};
+    ghost use Rattle.std.specs.Prelude.{ℕ, List, []};
 
     ghost Value = { List (List ℕ × ℕ) };
 
-    ghost use Rattle.core_lint.specs.Keys.{keys, IsCounted};
+    ghost use Rattle.core_lint.specs.Keys.{keys, IsKnown};
 
-    ghost view = { λ s. keys s.names.items };
+    ghost view = { λ s. keys [] s.names.items };
 
-    ghost invariant = { λ s. IsCounted s.names.items s.counts };
+    ghost invariant = { λ s. IsKnown s.names.items s.known };
 }
 
 impl<'a> Scope<'a> {
@@ -37,7 +44,7 @@ impl<'a> Scope<'a> {
     {
         Scope {
             names: Vec::new(alloc),
-            counts: BTreeMap::new(alloc),
+            known: BTreeSet::new(alloc),
         }
     }
 
@@ -45,32 +52,44 @@ impl<'a> Scope<'a> {
     pub fn contains(&self, name: Name<'a>) -> bool
         ensures { result ≡ list_any (λ k. same_key (key_of name.entry) k) self.now }
     {
-        self.counts.get(&name).copied().unwrap_or(0) > 0
+        self.known.contains(&name)
     }
 
-    /// Takes a name into scope, as the innermost.
-    pub fn enter(&mut self, name: Name<'a>) -> Result<(), Memory>
+    /// Takes a name into scope, as the innermost, and answers whether it was in scope before.
+    pub fn enter(&mut self, name: Name<'a>) -> Result<bool, Memory>
         ensures entered { OnOk result (self.new ≡ key_of name.entry ∷ self.old) }
+        ensures hides { IfOk result (λ hides. hides ≡ list_any (λ k. same_key (key_of name.entry) k) self.old) }
         ensures err { OnErr result (self.new ≡ self.old) }
     {
-        let count = self.counts.get(&name).copied().unwrap_or(0);
-        self.names.push(name)?;
-        if self.counts.insert(name, count + 1).is_err() {
-            self.names.pop();
+        let Ok(new) = self.known.insert(name) else {
+            return Err(Memory);
+        };
+        if self.names.push(Entered { name, hides: !new }).is_err() {
+            if new {
+                self.known.remove(&name);
+            }
             return Err(Memory);
         }
-        Ok(())
+        Ok(!new)
     }
 
     /// Leaves the scope of the innermost name, if there is one.
     pub fn leave(&mut self)
         ensures { self.new ≡ drop 1 self.old }
     {
-        if let Some(name) = self.names.pop() {
-            if let Some(count) = self.counts.get_mut(&name) {
-                *count -= 1;
+        if let Some(last) = self.names.pop() {
+            if !last.hides {
+                self.known.remove(&last.name);
             }
         }
+    }
+
+    // Leaves the scope of all names.
+    fn clear(&mut self)
+        ensures { self.new ≡ [] }
+    {
+        self.names.clear();
+        self.known.clear();
     }
 
     /// Takes these names into scope, the first as the innermost.
@@ -91,6 +110,10 @@ impl<'a> Scope<'a> {
     pub fn leave_all(&mut self, list: &[Bound<'a>])
         ensures { self.new ≡ drop (length (map entry_of list.now)) self.old }
     {
+        if list.len() >= self.names.len() {
+            self.clear();
+            return;
+        }
         for _bound in list {
             self.leave();
         }

@@ -1,6 +1,6 @@
 // The walk through the scopes: the rules that speak of names.
 
-ghost use Rattle.std.specs.Prelude.{◌≡◌, ◌∷◌, [], OnOk, map};
+ghost use Rattle.std.specs.Prelude.{◌≡◌, ◌∷◌, [], IfOk, OnOk, map};
 ghost use Rattle.core_ast.specs.Trees.{expression_of, expressions, clause_of, clauses, definition_of, definitions, function_of, module_of};
 ghost use Rattle.core_lint.specs.Entries.{entry_of, variable_entries};
 ghost use Rattle.core_lint.specs.Walks.{visited, visited_all, visited_clauses, visited_definitions, visited_function, visited_exports, visited_module, within, entered_functions, bound};
@@ -34,9 +34,9 @@ fn expression<'a>(alloc: Global, e: &'a Expr, walk: &mut Walk<'a>) -> Result<(),
             expression(alloc, tail.get(), walk)
         }
         Node::Let(xs, values, body) => {
-            bind(alloc, xs.as_slice(), walk)?;
+            let list = bind(alloc, xs.as_slice(), walk)?;
             expression(alloc, values.get(), walk)?;
-            within(alloc, xs.as_slice(), body.get(), walk)
+            within(alloc, list.as_slice(), body.get(), walk)
         }
         Node::Case(values, list) => {
             expression(alloc, values.get(), walk)?;
@@ -57,11 +57,11 @@ fn expression<'a>(alloc: Global, e: &'a Expr, walk: &mut Walk<'a>) -> Result<(),
         }
         Node::Call(_, _, args) | Node::Primop(_, args) => expressions(alloc, args.as_slice(), walk),
         Node::Try(part, xs, body, ys, handler) => {
-            bind(alloc, xs.as_slice(), walk)?;
-            bind(alloc, ys.as_slice(), walk)?;
+            let returned = bind(alloc, xs.as_slice(), walk)?;
+            let caught = bind(alloc, ys.as_slice(), walk)?;
             expression(alloc, part.get(), walk)?;
-            within(alloc, xs.as_slice(), body.get(), walk)?;
-            within(alloc, ys.as_slice(), handler.get(), walk)
+            within(alloc, returned.as_slice(), body.get(), walk)?;
+            within(alloc, caught.as_slice(), handler.get(), walk)
         }
         Node::Do(first, second) => {
             expression(alloc, first.get(), walk)?;
@@ -83,29 +83,30 @@ fn expressions<'a>(alloc: Global, list: &'a [Expr], walk: &mut Walk<'a>) -> Resu
     Ok(())
 }
 
-// These variables are bound together.
-fn bind<'a>(alloc: Global, xs: &'a [Var], walk: &mut Walk<'a>) -> Result<(), Memory>
-    ensures { OnOk result (walk.new ≡ bound Rule.DuplicateVariable (variable_entries xs.now) walk.old) }
+// These variables are bound together. It answers their names.
+fn bind<'a>(alloc: Global, xs: &'a [Var], walk: &mut Walk<'a>) -> Result<Vec<Bound<'a>>, Memory>
+    ensures bound { OnOk result (walk.new ≡ bound Rule.DuplicateVariable (variable_entries xs.now) walk.old) }
+    ensures names { IfOk result (λ list. map entry_of list.items ≡ variable_entries xs.now) }
 {
     let list = variables(alloc, xs)?;
-    walk.bind(alloc, Rule::DuplicateVariable, list.as_slice())
+    walk.bind(alloc, Rule::DuplicateVariable, list.as_slice())?;
+    Ok(list)
 }
 
-// An expression in which these variables are in scope.
+// An expression in which these names of variables are in scope.
 #[cycle(scoping)]
 #[tactic(auto, using(core_ast::proofs::Levels::levels))]
 fn within<'a>(
     alloc: Global,
-    xs: &'a [Var],
+    list: &[Bound<'a>],
     body: &'a Expr,
     walk: &mut Walk<'a>,
 ) -> Result<(), Memory>
-    ensures { OnOk result (walk.new ≡ within (variable_entries xs.now) (visited (expression_of body.now)) walk.old) }
+    ensures { OnOk result (walk.new ≡ within (map entry_of list.now) (visited (expression_of body.now)) walk.old) }
 {
-    let list = variables(alloc, xs)?;
-    walk.enter_variables(list.as_slice())?;
+    walk.enter_variables(list)?;
     expression(alloc, body, walk)?;
-    walk.leave_variables(list.as_slice());
+    walk.leave_variables(list);
     Ok(())
 }
 
@@ -115,8 +116,8 @@ fn within<'a>(
 fn function<'a>(alloc: Global, f: &'a Fun, walk: &mut Walk<'a>) -> Result<(), Memory>
     ensures { OnOk result (walk.new ≡ visited_function (function_of f.now) walk.old) }
 {
-    bind(alloc, f.params.as_slice(), walk)?;
-    within(alloc, f.params.as_slice(), f.body.get(), walk)
+    let list = bind(alloc, f.params.as_slice(), walk)?;
+    within(alloc, list.as_slice(), f.body.get(), walk)
 }
 
 // The functions of a `letrec` are in scope from here on.

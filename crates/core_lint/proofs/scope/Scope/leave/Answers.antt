@@ -1,29 +1,20 @@
-use Rattle.std.proofs.Common.{◌-◌, drop, arith, ap, sym, ◌∙◌, subst, rules}
-use Rattle.core_lint.specs.Keys.{IsCounted, keys}
-use Rattle.core_lint.proofs.Counted.{keys-append, left_counted, popped_count, popped_was_counted}
+use Rattle.std.proofs.Common.{[], drop, ap, sym, ◌∙◌, subst, rules}
+use Rattle.core_lint.specs.Keys.{IsKnown, keys}
+use Rattle.core_lint.proofs.Known.{left_known, shown_known, keys-append}
 use Rattle.core_lint.proofs.scope.Scope.leave.Goals as goal
 
--- a name that was popped was counted
-pub overflow_sub-count : goal.overflow_sub-count
-overflow_sub-count c =
-    let counted = subst (λ items. IsCounted items c.self.inside.counts) c.in-Some.ensures.items c.self.invariant in
-    omega (arith, popped_count c.pop.new.self.items c.self.inside.counts c.in-Some.name c.in-Some-get_mut.count.now counted c.in-Some-get_mut.ensures.value)
-
--- it is counted once less
 pub invariant_of-self : goal.invariant_of-self
 invariant_of-self c =
-    left_counted c.pop.new.self.items c.self.inside.counts (c.get_mut.follows.lender (c.in-Some-get_mut.count.now - 1)) c.in-Some.name c.in-Some-get_mut.count.now
-    (subst (λ items. IsCounted items c.self.inside.counts) c.in-Some.ensures.items c.self.invariant)
-    c.in-Some-get_mut.ensures.value
-    ((c.get_mut.follows.holds (c.in-Some-get_mut.count.now - 1)).3 (search rules))
+    left_known c.pop.new.self.items c.self.inside.known c.remove.new.self c.in-Some.last
+    (subst (λ items. IsKnown items c.self.inside.known) c.in-Some.ensures.items c.self.invariant) (search rules) c.remove.ensures.updates
 
-pub invariant_of-self-in_default-get_mut : goal.invariant_of-self-in_default-get_mut
-invariant_of-self-in_default-get_mut c =
-    absurd (popped_was_counted c.pop.new.self.items c.self.inside.counts c.in-Some.name
-    (subst (λ items. IsCounted items c.self.inside.counts) c.in-Some.ensures.items c.self.invariant) c.in_default-get_mut.ensures.value)
+pub invariant_of-self-else-not-last : goal.invariant_of-self-else-not-last
+invariant_of-self-else-not-last c =
+    shown_known c.pop.new.self.items c.self.inside.known c.in-Some.last
+    (subst (λ items. IsKnown items c.self.inside.known) c.in-Some.ensures.items c.self.invariant) (search rules)
 
-pub returns-in-Some-get_mut : goal.returns-in-Some-get_mut
-returns-in-Some-get_mut c = sym (ap (λ ks. drop 1 ks) (sym c.self.view_is ∙ ap keys c.in-Some.ensures.items ∙ keys-append c.pop.new.self.items c.in-Some.name))
+pub returns-then-not-last : goal.returns-then-not-last
+returns-then-not-last c = sym (ap (λ ks. drop 1 ks) (sym c.self.view_is ∙ ap (keys []) c.in-Some.ensures.items ∙ keys-append [] c.pop.new.self.items c.in-Some.last))
 
-pub returns-in_default-get_mut : goal.returns-in_default-get_mut
-returns-in_default-get_mut c = sym (ap (λ ks. drop 1 ks) (sym c.self.view_is ∙ ap keys c.in-Some.ensures.items ∙ keys-append c.pop.new.self.items c.in-Some.name))
+pub returns-else-not-last : goal.returns-else-not-last
+returns-else-not-last c = sym (ap (λ ks. drop 1 ks) (sym c.self.view_is ∙ ap (keys []) c.in-Some.ensures.items ∙ keys-append [] c.pop.new.self.items c.in-Some.last))
