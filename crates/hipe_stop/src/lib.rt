@@ -4,7 +4,8 @@
 // status are those of specs/Stops.antt; `report` writes the whole line or answers the status of a line that couldn't be written;
 // `good_module` gives the good module of a text, or the stop that says why the text has none.
 //
-// May touch: the sink that `report` is lent, and the arguments of the process, which `program_arguments` reads.
+// May touch: memory, the sink that `report` is lent, the arguments of the process, which `program_arguments` reads, and the stack, which
+// `stack_is_there` writes.
 //
 // Files:
 //   stop.rt          the reasons and the stops, with names and statuses
