@@ -1,0 +1,2 @@
+-- Lemmas on programs.
+pub mod Parts
