@@ -1,5 +1,5 @@
 -- What a service did, from what the code answers of it.
-use Rattle.std.proofs.Common.{◌≡◌, ℕ, ◌+◌, ◌*◌, List, ◌∷◌, length, map, Option, Some, None, true, false, refl, ap}
+use Rattle.std.proofs.Common.{◌≡◌, ℕ, ◌+◌, ◌*◌, List, [], ◌∷◌, length, map, Option, Some, None, true, false, refl, ap}
 use Rattle.std.specs.Prelude.{Bool, nat_le, string_bytes, if◌then◌else◌}
 use Rattle.std.specs.declared.cmp.Ordering.{Ordering}
 use Rattle.std.specs.declared.cmp.Ordering.TheVariants.{Less, Equal, Greater}
@@ -165,8 +165,9 @@ placed_ends o heap (Some i) result words = if_ends o (nat_le (i + length words) 
 appended_ends : (o : Option Term) (heap : List ℕ) (free : ℕ) (spine : Spine) (tail : ℕ) → EndsWith o (appended heap free spine tail)
 appended_ends o heap free NoTerm tail = tt
 appended_ends o heap free Improper tail = tt
-appended_ends o heap free (Proper ws) tail =
-    placed_ends o heap (free_index heap free) (cells_from free ws tail).0 (cells_from free ws tail).1
+appended_ends o heap free (Proper []) tail = tt
+appended_ends o heap free (Proper (w ∷ ws)) tail =
+    placed_ends o heap (free_index heap free) (cells_from free (w ∷ ws) tail).0 (cells_from free (w ∷ ws) tail).1
 
 copied_ends : (o : Option Term) (heap : List ℕ) (free : ℕ) (shape : Option (Shape Reference)) → EndsWith o (copied heap free shape)
 copied_ends o heap free None = tt

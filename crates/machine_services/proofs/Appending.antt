@@ -9,10 +9,10 @@ use Rattle.heap_terms.proofs.Levels.{term_is}
 use Rattle.heap_terms.specs.Shapes.{Symbols, Reference, Shape, Integer, Atom, Nil, Cons, Tuple, Fun, heap_begin, shape_at, option_map, lower, words_from, cons_shape, cons_at, object_at, from_outside}
 use Rattle.heap_terms.specs.Terms.{both, term_step, term_below}
 use Rattle.machine_services.specs.Laws.{IsKept, AllKept, ListsAppend}
-use Rattle.machine_services.specs.Lists.{spine_at, cells_from}
+use Rattle.machine_services.specs.Lists.{Proper, spine_at, cells_from}
 use Rattle.machine_services.specs.declared.service.Service.TheVariants as services
 use Rattle.machine_services.specs.Numbers.{service_number}
-use Rattle.machine_services.specs.Services.{Ends, HeapFull, Builds, service, placed, appended, heap_with}
+use Rattle.machine_services.specs.Services.{Ends, HeapFull, Builds, service, placed, placed_list, appended, heap_with}
 
 -- ---- a reference that may refer higher
 
@@ -189,6 +189,12 @@ by_number : (symbols : Symbols) (heap : List ℕ) (first second free : ℕ) → 
 unfolding service
 by_number symbols heap first second free = refl
 
+-- what `++` builds are the cells of the list
+built_from : (heap : List ℕ) (free second : ℕ) (ws : List ℕ) (result : ℕ) (words : List ℕ) → appended heap free (Proper ws) second ≡ Builds result words
+    → placed_list heap free (cells_from free ws second) ≡ Builds result words
+built_from heap free second [] result words e = absurd (cc)
+built_from heap free second (w ∷ ws) result words e = e
+
 at_free : (heap : List ℕ) (free : ℕ) → (nat_eq (free % 8) 0 && (nat_le (heap_begin heap) free && nat_le free HEAP_END)) ≡ true → free ≡ heap_begin heap + 8 * ((free - heap_begin heap) / 8)
 at_free heap free e =
     let b = begins heap in
@@ -241,7 +247,7 @@ lists_append = λ symbols heap first second free result words ws ts u e p all la
     let r = cells_from free ws second in
     let i : ℕ = (free - heap_begin heap) / 8 in
     let built = index_if (nat_eq (free % 8) 0 && (nat_le (heap_begin heap) free && nat_le free HEAP_END)) i heap r.0 result r.1 words
-    (sym (ap (λ s. appended heap free s second) p) ∙ sym (by_number symbols heap first second free) ∙ e) in
+    (built_from heap free second ws result words (sym (ap (λ s. appended heap free s second) p) ∙ sym (by_number symbols heap first second free) ∙ e)) in
     let room : i + length r.1 ≤ length heap = fits (i + length r.1) (length heap) built.1 in
     let after : List ℕ = heap_with heap free words in
     subst (λ w. term_below symbols after (from_outside after w) ≡ Some (cells ts u)) built.2

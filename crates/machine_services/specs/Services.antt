@@ -1,5 +1,5 @@
 -- What a service does. Its number is in rax, its arguments in rdi and rsi, the heap pointer in r15.
-use Rattle.std.specs.Prelude.{ℕ, ◌+◌, ◌-◌, ◌*◌, ◌/◌, ◌%◌, ◌^◌, List, ◌∷◌, ◌++◌, length, take, drop, map, ◌&&◌, Option, Some, None, nat_eq, nat_le, if◌then◌else◌}
+use Rattle.std.specs.Prelude.{ℕ, ◌+◌, ◌-◌, ◌*◌, ◌/◌, ◌%◌, ◌^◌, List, [], ◌∷◌, ◌++◌, length, take, drop, map, ◌&&◌, Option, Some, None, nat_eq, nat_le, if◌then◌else◌}
 use Rattle.std.specs.declared.cmp.Ordering.{Ordering}
 use Rattle.std.specs.declared.cmp.Ordering.TheVariants.{Less, Equal, Greater}
 use Rattle.region_memory.specs.declared.layout.TheConstants.{HEAP_END}
@@ -83,11 +83,12 @@ placed heap (Some i) result words = if nat_le (i + length words) (length heap) t
 abbrev pub placed_list : List ℕ → ℕ → ℕ × List ℕ → Effect
 placed_list heap free list = placed heap (free_index heap free) list.0 list.1
 
--- 0 where it is no proper list
+-- 0 where it is no proper list; before nil's no elements nothing is built, so the heap pointer isn't looked at
 abbrev pub appended : List ℕ → ℕ → Spine → ℕ → Effect
 appended heap free NoTerm tail = NoNext
 appended heap free Improper tail = Answers 0
-appended heap free (Proper ws) tail = placed_list heap free (cells_from free ws tail)
+appended heap free (Proper []) tail = Answers tail
+appended heap free (Proper (w ∷ ws)) tail = placed_list heap free (cells_from free (w ∷ ws) tail)
 
 -- the header and the words of a tuple's elements
 abbrev pub copied : List ℕ → ℕ → Option (Shape Reference) → Effect

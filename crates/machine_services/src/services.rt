@@ -7,10 +7,10 @@ ghost use Rattle.heap_terms.specs.Seen.{symbols_of};
 ghost use Rattle.heap_terms.specs.Shapes.{shape_at, from_outside};
 ghost use Rattle.heap_terms.specs.Terms.{term_at};
 ghost use Rattle.machine_services.specs.Comparing.{compared};
-ghost use Rattle.machine_services.specs.Lists.{spine_at};
-ghost use Rattle.machine_services.specs.Services.{service, does, returned, raised, displayed, by_order, length_word, appended, copied, free_index};
+ghost use Rattle.machine_services.specs.Lists.{spine_at, cells_from};
+ghost use Rattle.machine_services.specs.Services.{service, does, returned, raised, displayed, by_order, length_word, placed_list, appended, copied, free_index};
 ghost use Rattle.machine_services.specs.declared.list.Spine.TheVariants.{Proper};
-ghost use Rattle.machine_services.specs.Ends.{spine_seen};
+ghost use Rattle.machine_services.specs.Ends.{spine_seen, spine_elements};
 ghost use Rattle.machine_services.specs.Served.{IsServed};
 
 use crate::compare::compare;
@@ -102,7 +102,7 @@ pub enum Served {
 /// | 5 | tells whether two terms are equal | the one | the other | `Answered`: 1 where they are equal, else 0 |
 /// | 6 | compares two terms | the one | the other | `Answered`: -1, 0 or 1 where the one is less than, equal to or greater than the other |
 /// | 7 | counts the elements of a list | the list | | `Answered`: the length of a proper list, else -1 |
-/// | 8 | puts a list before a word | the list | the word | `Built` with its cells, or `Answered`: 0 where it is no proper list |
+/// | 8 | puts a list before a word | the list | the word | `Built` with its cells, or `Answered`: the word where the list is nil, 0 where it is no proper list |
 /// | 9 | copies a tuple | the tuple | | `Built` with the copy |
 ///
 /// What `Answered` gives is a plain number, -1 as 2^64 - 1. 0, 1 and 4 follow their term whole, 5 and 6 both from the left as far as
@@ -272,6 +272,8 @@ fn appended(
     match follow(symbols, heap, call.first) {
         Spine::NoTerm => Ok(Served::NoNext),
         Spine::Improper => Ok(Served::Answered(0)),
+        // Nothing is built, so the heap pointer doesn't matter.
+        Spine::Proper(0) => Ok(Served::Answered(call.second)),
         Spine::Proper(n) => match room_at(heap, call.free, 2 * n) {
             Room::Outside => Ok(Served::NoNext),
             Room::Full => Ok(Served::HeapFull),
@@ -291,10 +293,10 @@ fn built(
 ) -> Result<Served, Memory>
     requires limit { length heap.old ≤ HEAP_LIMIT }
     requires list { spine_seen (spine_at (symbols_of symbols.now) heap.old call.first) ≡ Proper count }
-    requires place { free_index heap.old call.free ≡ Some at }
+    requires index { free_index heap.old call.free ≡ Some at }
     requires room { at + 2 * count ≤ length heap.old }
     ensures served { IfOk result (λ s. IsServed (symbols_of symbols.now).definitions heap.old call.free
-        (appended heap.old call.free (spine_at (symbols_of symbols.now) heap.old call.first) call.second) s heap.new) }
+        (placed_list heap.old call.free (cells_from call.free (spine_elements (spine_at (symbols_of symbols.now) heap.old call.first)) call.second)) s heap.new) }
     ensures memory { OnErr result (heap.new ≡ heap.old) }
 {
     let words = 2 * count;

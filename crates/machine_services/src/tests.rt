@@ -84,6 +84,10 @@ fn services_answer(rt: HostRuntime) -> Result<(), Fail> {
         ([7, 25_769_803_665, 0, 0], "Answered(2)"),
         ([7, 25_769_803_705, 0, 0], "Answered(18446744073709551615)"),
         ([8, 25_769_803_705, 59, 25_769_803_736], "Answered(0)"),
+        // Nothing before 42: at the heap's end, between words, and below the heap.
+        ([8, 59, 687, 25_769_803_776], "Answered(687)"),
+        ([8, 59, 687, 25_769_803_740], "Answered(687)"),
+        ([8, 59, 687, 25_769_803_640], "Answered(687)"),
         ([8, 25_769_803_665, 59, 25_769_803_752], "HeapFull"),
         ([9, 25_769_803_682, 0, 25_769_803_760], "HeapFull"),
     ] {
@@ -109,9 +113,9 @@ fn there_is_no_next_state(rt: HostRuntime) -> Result<(), Fail> {
         [1, 687, 4, 0],
         [9, 25_769_803_665, 0, 25_769_803_736],
         [10, 0, 0, 0],
-        // Free places between words, below the heap and above it.
-        [8, 59, 59, 25_769_803_740],
-        [8, 59, 59, 25_769_803_640],
+        // Heap pointers between words, below the heap and above it.
+        [8, 25_769_803_665, 59, 25_769_803_740],
+        [8, 25_769_803_665, 59, 25_769_803_640],
         [9, 25_769_803_682, 0, 25_769_803_784],
     ] {
         let (text, heap) = served(rt.alloc(), call)?;
@@ -136,13 +140,6 @@ fn words_are_built(rt: HostRuntime) -> Result<(), Fail> {
             "Built { result: 25769803673, words: 4 }",
             1,
             [687, 59, 31, 25_769_803_657],
-        ),
-        // Nothing before 42, at the heap's end.
-        (
-            [8, 59, 687, 25_769_803_776],
-            "Built { result: 687, words: 0 }",
-            0,
-            [687, 59, 31, 25_769_803_649],
         ),
         (
             [9, 25_769_803_682, 0, 25_769_803_736],

@@ -1,12 +1,12 @@
 -- What services do with words that stand for terms.
-use Rattle.std.proofs.Common.{◌≡◌, ℕ, suc, ◌+◌, ◌*◌, ◌≤◌, List, [], ◌∷◌, ◌++◌, length, take, Option, Some, None, refl, sym, ap, ap₂, ◌∙◌, subst, length-append, arith}
+use Rattle.std.proofs.Common.{◌≡◌, ℕ, suc, ◌+◌, ◌*◌, ◌≤◌, Bool, true, false, cond, nat_le, List, [], ◌∷◌, ◌++◌, length, take, Option, Some, None, refl, sym, ap, ap₂, ◌∙◌, subst, length-append, arith}
 use Rattle.std.proofs.lemmas.List.{length-take-le}
 use Rattle.std.specs.declared.cmp.Ordering.{Ordering}
 use Rattle.std.specs.declared.cmp.Ordering.TheVariants.{Less, Equal, Greater}
 use Rattle.region_memory.specs.declared.layout.TheConstants.{HEAP_LIMIT}
 use Rattle.hipe_terms.specs.Order.{order}
 use Rattle.hipe_terms.specs.Outcome.{elements}
-use Rattle.hipe_terms.specs.Terms.{Term, tuple, Terms, none, more, count, terms, listed, cells}
+use Rattle.hipe_terms.specs.Terms.{Term, nil, tuple, Terms, none, more, count, terms, listed, cells}
 use Rattle.hipe_terms.specs.Words.{list_words, tuple_words}
 use Rattle.hipe_terms.proofs.TotalOrder.{order_tells_apart}
 use Rattle.heap_terms.specs.Building.{Built, cells_built}
@@ -18,12 +18,12 @@ use Rattle.heap_terms_laws.proofs.Growing.{prefixes_have_terms}
 use Rattle.heap_terms_laws.proofs.Lists.{tuple_stands, cells_stand}
 use Rattle.heap_terms_laws.proofs.Shapes.{HasShape, shape_has}
 use Rattle.machine_services.specs.Comparing.{compared}
-use Rattle.machine_services.specs.Lists.{Spine, spine_at, cells_from}
-use Rattle.machine_services.specs.Services.{Answers, service, returned, raised, displayed, equality, order_word, length_word, appended, copied, placed, free_index}
+use Rattle.machine_services.specs.Lists.{Spine, Proper, spine_at, cells_from}
+use Rattle.machine_services.specs.Services.{Ends, Answers, Builds, HeapFull, service, returned, raised, displayed, equality, order_word, length_word, appended, copied, placed, placed_list, free_index}
 use Rattle.machine_services.proofs.Cells.{cells_length}
 use Rattle.machine_services.proofs.TermOrder.{words_compare}
 use Rattle.machine_services.proofs.Tuples.{words_back}
-use Rattle.machine_services_laws.specs.Laws.{InPrefixes, ReturnsTerm, RaisesTerm, DisplaysTerm, ComparesEqual, OrdersTerms, length_answer, CountsElements, free_at, BuildsBehind, AppendsTo, AppendsLists, CopiesTuple}
+use Rattle.machine_services_laws.specs.Laws.{InPrefixes, ReturnsTerm, RaisesTerm, DisplaysTerm, ComparesEqual, OrdersTerms, length_answer, CountsElements, free_at, BuildsBehind, AppendsTo, AppendsLists, AppendsToNil, IsAtFree, CopiesTo, CopiesTuple, EndsHeapFull, EndsStackFull}
 use Rattle.machine_services_laws.proofs.Spines.{HasSpine, spine_has}
 use Rattle.machine_services_laws.proofs.Rooms.{prefix_of, outside, within, each_within, each_length, cells_same, built_behind}
 
@@ -77,6 +77,13 @@ pub counts_elements : InPrefixes CountsElements
 unfolding service
 counts_elements symbols heap n l t w second free h = length_by symbols heap (take n heap) (length heap) (elements t) (spine_at symbols heap w) (spines symbols heap n t w l h)
 
+-- a list without elements is before a word: the word is the answer
+append_to_nil : (symbols : Symbols) (heap words : List ℕ) (below free tail : ℕ) (s : Spine) → HasSpine symbols heap words below (Some []) s → appended heap free s tail ≡ Answers tail
+append_to_nil symbols heap words below free tail s h = ap (λ z. appended heap free z tail) h.1 ∙ go h.0 (each_length symbols (heap_begin heap) words below [] h.0 h.2) where
+  go : (ws : List ℕ) → length ws ≡ 0 → appended heap free (Proper ws) tail ≡ Answers tail
+  go [] e = refl
+  go (w ∷ ws) e = absurd (omega (arith, e))
+
 module _ (symbols : Symbols) (heap : List ℕ) (n : ℕ) (small : length heap ≤ HEAP_LIMIT) (fits : n ≤ length heap) where
   abbrev used : List ℕ
   used = take n heap
@@ -96,17 +103,26 @@ module _ (symbols : Symbols) (heap : List ℕ) (n : ℕ) (small : length heap �
   free_is : free_at symbols heap n ≡ heap_begin heap + 8 * length used
   free_is = ap (λ k. heap_begin heap + 8 * k) (sym (length-take-le n heap fits))
 
+  cells_behind : (u : Term) (tail : ℕ) → StandsBefore symbols heap n u tail → (ts : List Term) (ws : List ℕ) → EachStands symbols (heap_begin heap) used (length heap) ts ws
+      → BuildsBehind symbols heap n (list_words (length ts)) (cells ts u) (placed_list heap (free_at symbols heap n) (cells_from (free_at symbols heap n) ws tail))
+  cells_behind u tail k ts ws each =
+      let list : ℕ × List ℕ = cells_from (free_at symbols heap n) ws tail in
+      let cells_here : StartsWith (cells_built (heap_begin heap) ws (tail, used)).1 used × IsHere (cells ts u) (cells_built (heap_begin heap) ws (tail, used))
+      = cells_stand symbols (heap_begin heap) ts ws u (tail, used) (each_within symbols (heap_begin heap) used (length heap) ts ws each) (here u tail k) in
+      behind (cells ts u) list.0 (list_words (length ts)) list.1
+      (cells_length (free_at symbols heap n) ws tail ∙ ap (λ k. 2 * k) (each_length symbols (heap_begin heap) used (length heap) ts ws each))
+      (subst (IsHere (cells ts u)) (cells_same (heap_begin heap) used (free_at symbols heap n) free_is ws tail) cells_here.1)
+
   append_by : (u : Term) (tail : ℕ) → StandsBefore symbols heap n u tail → (o : Option (List Term)) (s : Spine) → HasSpine symbols heap used (length heap) o s
-      → AppendsTo symbols heap n o u (appended heap (free_at symbols heap n) s tail)
+      → AppendsTo symbols heap n o u tail (appended heap (free_at symbols heap n) s tail)
   append_by u tail k None s h = ap (λ z. appended heap (free_at symbols heap n) z tail) h
-  append_by u tail k (Some ts) s h =
-      let list : ℕ × List ℕ = cells_from (free_at symbols heap n) h.0 tail in
-      let cells_here : StartsWith (cells_built (heap_begin heap) h.0 (tail, used)).1 used × IsHere (cells ts u) (cells_built (heap_begin heap) h.0 (tail, used))
-      = cells_stand symbols (heap_begin heap) ts h.0 u (tail, used) (each_within symbols (heap_begin heap) used (length heap) ts h.0 h.2) (here u tail k) in
-      subst (λ z. BuildsBehind symbols heap n (list_words (length ts)) (cells ts u) (appended heap (free_at symbols heap n) z tail)) (sym h.1)
-      (behind (cells ts u) list.0 (list_words (length ts)) list.1
-      (cells_length (free_at symbols heap n) h.0 tail ∙ ap (λ k. 2 * k) (each_length symbols (heap_begin heap) used (length heap) ts h.0 h.2))
-      (subst (IsHere (cells ts u)) (cells_same (heap_begin heap) used (free_at symbols heap n) free_is h.0 tail) cells_here.1))
+  append_by u tail k (Some []) s h = append_to_nil symbols heap used (length heap) (free_at symbols heap n) tail s h
+  append_by u tail k (Some (t ∷ ts)) s h =
+      subst (λ z. BuildsBehind symbols heap n (list_words (length (t ∷ ts))) (cells (t ∷ ts) u) (appended heap (free_at symbols heap n) z tail)) (sym h.1) (go h.0 h.2) where
+        go : (ws : List ℕ) → EachStands symbols (heap_begin heap) used (length heap) (t ∷ ts) ws
+            → BuildsBehind symbols heap n (list_words (length (t ∷ ts))) (cells (t ∷ ts) u) (appended heap (free_at symbols heap n) (Proper ws) tail)
+        go [] each = let none = each_length symbols (heap_begin heap) used (length heap) (t ∷ ts) [] each in absurd (omega (arith, none))
+        go (w ∷ ws) each = cells_behind u tail k (t ∷ ts) (w ∷ ws) each
 
 -- ---- tuples
 
@@ -127,6 +143,27 @@ unfolding service
 appends_lists symbols heap n fits small t u first second h k =
     append_by symbols heap n small fits u second k (elements t) (spine_at symbols heap first) (spines symbols heap n t first fits h)
 
+pub appends_to_nil : InPrefixes AppendsToNil
+unfolding service
+appends_to_nil symbols heap n fits first second free h =
+    append_to_nil symbols heap (take n heap) (length heap) free second (spine_at symbols heap first) (spines symbols heap n nil first fits h)
+
+-- what is placed is an object at the heap pointer
+at_free : (symbols : Symbols) (heap : List ℕ) (n : ℕ) (o : Option ℕ) (words : List ℕ) → IsAtFree symbols heap n (placed heap o (free_at symbols heap n + 2) words)
+at_free symbols heap n None words = tt
+at_free symbols heap n (Some i) words = go (nat_le (i + length words) (length heap)) where
+  go : (b : Bool) → IsAtFree symbols heap n (cond b (Builds (free_at symbols heap n + 2) words) (Ends HeapFull))
+  go true = refl
+  go false = tt
+
+pub ends_heap_full : InPrefixes EndsHeapFull
+unfolding service
+ends_heap_full symbols heap n fits first second free = refl
+
+pub ends_stack_full : InPrefixes EndsStackFull
+unfolding service
+ends_stack_full symbols heap n fits first second free = refl
+
 pub copies_tuple : InPrefixes CopiesTuple
 unfolding service
 copies_tuple symbols heap n fits small ts w second h =
@@ -142,8 +179,10 @@ copies_tuple symbols heap n fits small ts w second h =
     let seen : copied heap free (shape_at symbols heap (from_outside heap w)) ≡ placed heap (free_index heap free) (free + 2) ((64 * length ws) ∷ ws)
     = ap (copied heap free) (shape.1 ∙ ap (λ s. Some s) shape.2.3)
     ∙ ap₂ (λ k vs. placed heap (free_index heap free) (free + 2) ((64 * k) ∷ vs)) (parts_length i ws) (words_back i ws) in
-    subst (BuildsBehind symbols heap n (tuple_words (count ts)) (tuple ts)) (sym seen)
-    (behind symbols heap n small fits (tuple ts) (free + 2) (tuple_words (count ts)) ((64 * length ws) ∷ ws)
-    (omega (arith, each_length symbols begin used i (listed ts) ws shape.2.4, length_listed ts))
-    (subst (λ us. StandsIn symbols begin (used ++ (64 * length ws) ∷ ws) (length (used ++ (64 * length ws) ∷ ws)) (tuple us) (free + 2)) (terms_listed ts)
-    (subst (λ a. StandsIn symbols begin (used ++ (64 * length ws) ∷ ws) (length (used ++ (64 * length ws) ∷ ws)) (tuple (terms (listed ts))) a) (ap (λ a. a + 2) (sym (free_is symbols heap n small fits))) copy.1)))
+    subst (CopiesTo symbols heap n ts) (sym seen) (
+      (behind symbols heap n small fits (tuple ts) (free + 2) (tuple_words (count ts)) ((64 * length ws) ∷ ws)
+          (omega (arith, each_length symbols begin used i (listed ts) ws shape.2.4, length_listed ts))
+          (subst (λ us. StandsIn symbols begin (used ++ (64 * length ws) ∷ ws) (length (used ++ (64 * length ws) ∷ ws)) (tuple us) (free + 2)) (terms_listed ts)
+          (subst (λ a. StandsIn symbols begin (used ++ (64 * length ws) ∷ ws) (length (used ++ (64 * length ws) ∷ ws)) (tuple (terms (listed ts))) a) (ap (λ a. a + 2) (sym (free_is symbols heap n small fits))) copy.1))),
+      at_free symbols heap n (free_index heap free) ((64 * length ws) ∷ ws),
+    )

@@ -1,17 +1,18 @@
 -- What the services do with words that stand for terms in a prefix of a heap, before its n-th word.
-use Rattle.std.specs.Prelude.{◌≡◌, ◌≢◌, ℕ, ◌+◌, ◌*◌, ◌<◌, ◌≤◌, List, length, Option, Some, None}
+use Rattle.std.specs.Prelude.{◌≡◌, ◌≢◌, ℕ, ◌+◌, ◌*◌, ◌<◌, ◌≤◌, List, [], ◌∷◌, length, Option, Some, None}
 use Rattle.region_memory.specs.declared.layout.TheConstants.{HEAP_LIMIT}
 use Rattle.hipe_terms.specs.Order.{order}
 use Rattle.hipe_terms.specs.declared.class.Class.{Class}
 use Rattle.hipe_terms.specs.Classes.{class_numbered}
 use Rattle.hipe_terms.specs.Outcome.{elements}
-use Rattle.hipe_terms.specs.Terms.{Term, tuple, Terms, count, cells}
+use Rattle.hipe_terms.specs.Terms.{Term, nil, tuple, Terms, count, cells}
 use Rattle.hipe_terms.specs.Words.{list_words, tuple_words}
+use Rattle.heap_terms.specs.declared.tags.TheConstants.{OBJECT_TAG}
 use Rattle.heap_terms.specs.Shapes.{Symbols, heap_begin}
 use Rattle.heap_terms_laws.specs.Prefixes.{StandsBefore, SameBelow}
 use Rattle.machine_services.specs.declared.service.Service.TheVariants as services
 use Rattle.machine_services.specs.Numbers.{service_number}
-use Rattle.machine_services.specs.Services.{Effect, Ends, Answers, Displays, Builds, Returned, Raised, HeapFull, minus_one, order_word, service, heap_with}
+use Rattle.machine_services.specs.Services.{Effect, Ends, Answers, Displays, Builds, Returned, Raised, HeapFull, StackFull, minus_one, order_word, service, heap_with}
 
 -- for every prefix of every heap, and whatever the symbols
 abbrev pub InPrefixes : (Symbols → List ℕ → ℕ → Type 0) → Type 0
@@ -66,13 +67,34 @@ module _ (symbols : Symbols) (heap : List ℕ) (n : ℕ) where
   BuildsBehind room t (Ends HeapFull) = length heap < n + room
   BuildsBehind room t _ = ⊥
 
-  -- the elements of a proper list before a term
-  abbrev pub AppendsTo : Option (List Term) → Term → Effect → Type 0
-  AppendsTo (Some ts) u s = BuildsBehind (list_words (length ts)) (cells ts u) s
-  AppendsTo None u s = s ≡ Answers 0
+  -- the elements of a proper list before the term of a word; where there are none, it is the word itself
+  abbrev pub AppendsTo : Option (List Term) → Term → ℕ → Effect → Type 0
+  AppendsTo (Some []) u second s = s ≡ Answers second
+  AppendsTo (Some (t ∷ ts)) u second s = BuildsBehind (list_words (length (t ∷ ts))) (cells (t ∷ ts) u) s
+  AppendsTo None u second s = s ≡ Answers 0
 
   abbrev pub AppendsLists : Type 0
-  AppendsLists = length heap ≤ HEAP_LIMIT → (t u : Term) (first second : ℕ) → Stands t first → Stands u second → AppendsTo (elements t) u (service symbols heap (service_number services.Append) first second free_at)
+  AppendsLists = length heap ≤ HEAP_LIMIT → (t u : Term) (first second : ℕ) → Stands t first → Stands u second → AppendsTo (elements t) u second (service symbols heap (service_number services.Append) first second free_at)
+
+  -- With nil before it the word is the answer, wherever the heap pointer is.
+  abbrev pub AppendsToNil : Type 0
+  AppendsToNil = (first second free : ℕ) → Stands nil first → service symbols heap (service_number services.Append) first second free ≡ Answers second
+
+  -- what is built is an object that begins behind the words that are used, and so none of those that stand there
+  abbrev pub IsAtFree : Effect → Type 0
+  IsAtFree (Builds result words) = result ≡ free_at + OBJECT_TAG
+  IsAtFree _ = Unit {0}
+
+  abbrev pub CopiesTo : Terms → Effect → Type 0
+  CopiesTo ts s = BuildsBehind (tuple_words (count ts)) (tuple ts) s × IsAtFree s
 
   abbrev pub CopiesTuple : Type 0
-  CopiesTuple = length heap ≤ HEAP_LIMIT → (ts : Terms) (w second : ℕ) → Stands (tuple ts) w → BuildsBehind (tuple_words (count ts)) (tuple ts) (service symbols heap (service_number services.CopyTuple) w second free_at)
+  CopiesTuple = length heap ≤ HEAP_LIMIT → (ts : Terms) (w second : ℕ) → Stands (tuple ts) w → CopiesTo ts (service symbols heap (service_number services.CopyTuple) w second free_at)
+
+  -- ---- the run's end for want of room
+
+  abbrev pub EndsHeapFull : Type 0
+  EndsHeapFull = (first second free : ℕ) → service symbols heap (service_number services.HeapFull) first second free ≡ Ends HeapFull
+
+  abbrev pub EndsStackFull : Type 0
+  EndsStackFull = (first second free : ℕ) → service symbols heap (service_number services.StackFull) first second free ≡ Ends StackFull

@@ -1,6 +1,6 @@
 // What services do with words that stand for terms. Each function states a law and does nothing.
 
-ghost use Rattle.machine_services_laws.specs.Laws.{InPrefixes, ReturnsTerm, RaisesTerm, DisplaysTerm, ComparesEqual, OrdersTerms, CountsElements, AppendsLists, CopiesTuple};
+ghost use Rattle.machine_services_laws.specs.Laws.{InPrefixes, ReturnsTerm, RaisesTerm, DisplaysTerm, ComparesEqual, OrdersTerms, CountsElements, AppendsLists, AppendsToNil, CopiesTuple, EndsHeapFull, EndsStackFull};
 
 /// `Return` ends the run with the term for which its word stands.
 pub fn returns_term()
@@ -33,12 +33,28 @@ pub fn counts_elements()
 {}
 
 /// `Append` builds the elements of a proper list before another term behind the words that are used, or the heap has no room
-/// for them. Where the first isn't a proper list, it answers the plain number 0.
+/// for them. Where the first is nil, it answers the other's word. Where the first isn't a proper list, it answers the plain number 0.
 pub fn appends_lists()
     ensures { InPrefixes AppendsLists }
 {}
 
-/// `CopyTuple` builds a copy of a tuple behind the words that are used, or the heap has no room for it.
+/// `Append` with nil first answers the other word, whatever stands in r15.
+pub fn appends_to_nil()
+    ensures { InPrefixes AppendsToNil }
+{}
+
+/// `HeapFull` ends the run, whatever its words are.
+pub fn ends_heap_full()
+    ensures { InPrefixes EndsHeapFull }
+{}
+
+/// `StackFull` ends the run, whatever its words are.
+pub fn ends_stack_full()
+    ensures { InPrefixes EndsStackFull }
+{}
+
+/// `CopyTuple` builds a copy of a tuple behind the words that are used, as a new object at the heap pointer, or the heap has no room
+/// for it.
 pub fn copies_tuple()
     ensures { InPrefixes CopiesTuple }
 {}
